@@ -1,0 +1,85 @@
+ghost use Rattle.std.specs.Prelude.{◌≡◌, codes};
+ghost use Rattle.dt_kinds.specs.Kind.{native_size, name_of};
+
+/// A basic type of MPI 4.1, section 3.2.2, without floating-point, complex and logical types.
+#[derive(Clone, Copy, Debug, PartialEq, Eq)]
+pub enum Kind {
+    Byte,
+    Char,
+    SignedChar,
+    UnsignedChar,
+    Short,
+    UnsignedShort,
+    Int,
+    Unsigned,
+    Long,
+    UnsignedLong,
+    LongLong,
+    UnsignedLongLong,
+    Int8,
+    Int16,
+    Int32,
+    Int64,
+    Uint8,
+    Uint16,
+    Uint32,
+    Uint64,
+    Aint,
+    Count,
+    Offset,
+}
+
+/// How packed bytes represent the elements: as they lie in memory, or as `external32` of MPI 4.1,
+/// section 14.5.2.
+#[derive(Clone, Copy, Debug, PartialEq, Eq)]
+pub enum Rep {
+    Native,
+    External32,
+}
+
+impl Kind {
+    /// The bytes of an element in memory, which are its alignment too.
+    pub fn size(self) -> u32
+        ensures { result ≡ native_size self }
+    {
+        match self {
+            Kind::Byte | Kind::Char | Kind::SignedChar | Kind::UnsignedChar => 1,
+            Kind::Int8 | Kind::Uint8 => 1,
+            Kind::Short | Kind::UnsignedShort | Kind::Int16 | Kind::Uint16 => 2,
+            Kind::Int | Kind::Unsigned | Kind::Int32 | Kind::Uint32 => 4,
+            Kind::Long | Kind::UnsignedLong | Kind::LongLong | Kind::UnsignedLongLong => 8,
+            Kind::Int64 | Kind::Uint64 | Kind::Aint | Kind::Count | Kind::Offset => 8,
+        }
+    }
+
+    /// The name of the MPI datatype.
+    pub fn name(self) -> &'static str
+        ensures { result.now ≡ name_of self }
+    {
+        match self {
+            Kind::Byte => "MPI_BYTE",
+            Kind::Char => "MPI_CHAR",
+            Kind::SignedChar => "MPI_SIGNED_CHAR",
+            Kind::UnsignedChar => "MPI_UNSIGNED_CHAR",
+            Kind::Short => "MPI_SHORT",
+            Kind::UnsignedShort => "MPI_UNSIGNED_SHORT",
+            Kind::Int => "MPI_INT",
+            Kind::Unsigned => "MPI_UNSIGNED",
+            Kind::Long => "MPI_LONG",
+            Kind::UnsignedLong => "MPI_UNSIGNED_LONG",
+            Kind::LongLong => "MPI_LONG_LONG",
+            Kind::UnsignedLongLong => "MPI_UNSIGNED_LONG_LONG",
+            Kind::Int8 => "MPI_INT8_T",
+            Kind::Int16 => "MPI_INT16_T",
+            Kind::Int32 => "MPI_INT32_T",
+            Kind::Int64 => "MPI_INT64_T",
+            Kind::Uint8 => "MPI_UINT8_T",
+            Kind::Uint16 => "MPI_UINT16_T",
+            Kind::Uint32 => "MPI_UINT32_T",
+            Kind::Uint64 => "MPI_UINT64_T",
+            Kind::Aint => "MPI_AINT",
+            Kind::Count => "MPI_COUNT",
+            Kind::Offset => "MPI_OFFSET",
+        }
+    }
+}
