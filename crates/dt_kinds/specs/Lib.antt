@@ -1,2 +1,3 @@
 pub mod Displacement
+pub mod Image
 pub mod Kind

@@ -1,0 +1,18 @@
+use Rattle.std.specs.Prelude.{ℕ, ◌+ℤ◌, ◌*ℤ◌, ℤ, pos, List, map}
+use Rattle.std.specs.List.{flat_map}
+use Rattle.dt_map.specs.Numbers.{below}
+use Rattle.dt_map.specs.Typemap.{Marked}
+use Rattle.dt_map.specs.Bounds.{extent_of}
+use Rattle.dt_map.specs.Placing.{place}
+
+-- copies of one typemap at offsets
+abbrev pub copies_at : List ℤ → Marked → Marked
+copies_at offsets old = place (map (λ x. (x, old)) offsets)
+
+-- MPI_Type_create_hvector (MPI 4.1, section 5.1.2): block i begins at i*stride bytes, and copy j in it j extents further on
+abbrev pub hvector_offsets : ℕ → ℕ → ℤ → ℤ → List ℤ
+hvector_offsets count block stride extent =
+    flat_map (λ i. map (λ j. (pos i *ℤ stride) +ℤ (pos j *ℤ extent)) (below block)) (below count)
+
+abbrev pub hvector : ℕ → ℕ → ℤ → Marked → Marked
+hvector count block stride old = copies_at (hvector_offsets count block stride (extent_of old)) old

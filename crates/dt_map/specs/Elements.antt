@@ -1,0 +1,19 @@
+use Rattle.std.specs.Prelude.{ℕ, Bool, ◌&&◌, ◌+ℤ◌, ◌*ℤ◌, ℤ, pos, int_le, List}
+use Rattle.std.specs.List.{flat_map, list_all}
+use Rattle.dt_map.specs.declared.typemap.Entry.{Entry}
+use Rattle.dt_map.specs.Numbers.{below}
+use Rattle.dt_map.specs.Typemap.{Marked, shift}
+use Rattle.dt_map.specs.Bounds.{extent_of, end_of}
+
+-- the elements of an operation on count copies from the origin on (MPI 4.1, sections 3.2.2 and 5.1): copy i is i extents further
+-- on. An element is an entry whose displacement is its place in the buffer
+abbrev pub elements : Marked → ℕ → ℤ → List Entry
+elements m count origin = flat_map (λ i. shift (origin +ℤ (pos i *ℤ extent_of m)) m.entries) (below count)
+
+-- whether each byte of an element lies in a buffer of so many bytes
+abbrev pub lies_inside : ℕ → Entry → Bool
+lies_inside len e = int_le (pos 0) e.disp && int_le (end_of e) (pos len)
+
+-- whether each element does
+abbrev pub are_inside : ℕ → List Entry → Bool
+are_inside len es = list_all (lies_inside len) es

@@ -1,0 +1,20 @@
+use Rattle.std.specs.Prelude.{Option, Some, None, ◌+ℤ◌, ℤ, List, [], ◌∷◌}
+use Rattle.std.specs.List.{flat_map}
+use Rattle.std.specs.Int.{int_min, int_max}
+use Rattle.dt_map.specs.declared.typemap.Marks.{Marks}
+use Rattle.dt_map.specs.Typemap.{Marked, shift, shift_marks}
+
+-- the marks around two pairs of marks, where either may be missing
+abbrev pub joined_marks : Option Marks → Option Marks → Option Marks
+joined_marks None b = b
+joined_marks (Some a) None = Some a
+joined_marks (Some a) (Some b) = Some (record { lb = int_min a.lb b.lb; ub = int_max a.ub b.ub })
+
+-- the least shifted lower mark and the greatest shifted upper mark of the members that have marks
+abbrev pub placed_marks : List (ℤ × Marked) → Option Marks
+placed_marks [] = None
+placed_marks (member ∷ members) = joined_marks (shift_marks member.0 member.1.marks) (placed_marks members)
+
+-- typemaps placed at offsets, one after another
+abbrev pub place : List (ℤ × Marked) → Marked
+place members = record { entries = flat_map (λ member. shift member.0 member.1.entries) members; marks = placed_marks members }

@@ -1,0 +1,21 @@
+use Rattle.std.specs.Prelude.{Option, Some, None, ◌+ℤ◌, ℤ, List, map}
+use Rattle.dt_map.specs.declared.typemap.Entry.{Entry}
+use Rattle.dt_map.specs.declared.typemap.Marks.{Marks}
+
+-- a typemap (MPI 4.1, section 5.1) with its marks, where it has them
+pub record Marked : Type 0 where
+  pub entries : List Entry
+  pub marks : Option Marks
+
+-- an entry x bytes further on
+abbrev pub shift_entry : ℤ → Entry → Entry
+shift_entry x e = record { kind = e.kind; disp = e.disp +ℤ x }
+
+-- a typemap x bytes further on
+abbrev pub shift : ℤ → List Entry → List Entry
+shift x entries = map (shift_entry x) entries
+
+-- marks x bytes further on
+abbrev pub shift_marks : ℤ → Option Marks → Option Marks
+shift_marks x None = None
+shift_marks x (Some m) = Some (record { lb = m.lb +ℤ x; ub = m.ub +ℤ x })

@@ -1,0 +1,6 @@
+//! Typemaps of MPI datatypes as plain lists, with their bounds.
+#![tactic(auto)]
+
+pub mod typemap;
+
+pub use typemap::{Bounds, Entry, FlatMap, MapFault, Marks};
