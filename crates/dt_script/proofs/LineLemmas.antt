@@ -1,0 +1,37 @@
+-- A line means one thing alone.
+use Rattle.std.proofs.Common.{◌≡◌, ℕ, List, true, false, Some, None, Err, refl, ap, sym, ◌∙◌}
+use Rattle.dt_script.specs.declared.command.Command.{Command}
+use Rattle.dt_script.specs.Words.{words_of}
+use Rattle.dt_script.specs.Command.{IsCommand}
+use Rattle.dt_script.specs.declared.line.LineFault.{LineFault}
+use Rattle.dt_script.specs.declared.line.LineFault.TheVariants.{Syntax}
+use Rattle.dt_script.specs.Line.{Meaning, Blank, Fault, Does, IsLine, answered, is_passed_over}
+use Rattle.dt_script.specs.Reading.{Gives, command_of}
+use Rattle.dt_script.proofs.ReadingLemmas.{command_complete}
+
+apart : (b : _) → b ≡ true → b ≡ false → ⊥
+apart b t f = let e : true ≡ false = sym t ∙ f in cc
+
+-- words are in the form of one command
+one_command : (ws : List (List ℕ)) (c d : Command) → IsCommand ws c → IsCommand ws d → c ≡ d
+one_command ws c d p q = let e : Some c ≡ Some d = sym (command_complete ws c p) ∙ command_complete ws d q in cc
+
+-- words that give no command are in no form
+pub no_command : (ws : List (List ℕ)) (c : Command) → command_of ws ≡ None → ¬ IsCommand ws c
+no_command ws c e p = let apart : None ≡ Some c = sym e ∙ command_complete ws c p in cc
+
+pub one_meaning : (line : List ℕ) (m n : Meaning) → IsLine line m → IsLine line n → m ≡ n
+one_meaning line Blank Blank p q = refl
+one_meaning line Blank Fault p q = absurd (apart _ p q.0)
+one_meaning line Blank (Does d) p q = absurd (apart _ p q.0)
+one_meaning line Fault Blank p q = absurd (apart _ q p.0)
+one_meaning line Fault Fault p q = refl
+one_meaning line Fault (Does d) p q = absurd (p.1 q.1 d q.2)
+one_meaning line (Does c) Blank p q = absurd (apart _ q p.0)
+one_meaning line (Does c) Fault p q = absurd (q.1 p.1 c p.2)
+one_meaning line (Does c) (Does d) p q = ap Does (one_command (words_of line) c d p.2 q.2)
+
+-- where reading gives no command, the line is a fault
+pub fault_line : (line : List ℕ) (fault : LineFault) → is_passed_over (words_of line) ≡ false
+    → Gives {X = Command} (λ c. c) (Err fault) (command_of (words_of line)) → IsLine line (answered (Err fault))
+fault_line line Syntax p g = (p, λ _ c. no_command (words_of line) c g)

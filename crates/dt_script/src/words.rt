@@ -1,0 +1,56 @@
+ghost use Rattle.std.specs.Prelude.{◌≡◌, ◌≢◌, ◌≤◌, List, length, MatchOption, [], ◌∷◌, false};
+ghost use Rattle.std.specs.List.{position_or_len};
+ghost use Rattle.dt_script.specs.Words.{is_blank, begins_blank, words_of};
+
+/// Whether a byte is a space or a tab.
+pub(crate) fn is_blank(b: u8) -> bool
+    ensures { result ≡ is_blank b }
+{
+    b == 32 || b == 9
+}
+
+/// The line from its first byte on that is no blank.
+fn without_blanks(line: &[u8]) -> &[u8]
+    ensures words { words_of result.now ≡ words_of line.now }
+    ensures first { begins_blank result.now ≡ false }
+{
+    let mut rest = line;
+    'blanks: while let [b, after @ ..] = rest {
+        if !is_blank(*b) {
+            break;
+        }
+        rest = after;
+    }
+    rest
+}
+
+/// How many bytes stand before the first blank.
+fn word_len(line: &[u8]) -> usize
+    ensures exact { position_or_len is_blank line.now ≡ result }
+    ensures fits { result ≤ length line.now }
+{
+    for (i, b) in line.iter().enumerate() {
+        if is_blank(*b) {
+            return i;
+        }
+    }
+    line.len()
+}
+
+/// The first word of a line that begins with one, and the bytes after it.
+fn split_at_blank(line: &[u8]) -> (&[u8], &[u8])
+    ensures { begins_blank line.now ≡ false → line.now ≢ [] → words_of line.now ≡ result.0.now ∷ words_of result.1.now }
+{
+    line.split_at(word_len(line))
+}
+
+/// The first word of a line, and the bytes after it.
+pub(crate) fn next_word(line: &[u8]) -> Option<(&[u8], &[u8])>
+    ensures { MatchOption result (words_of line.now ≡ []) (λ found. words_of line.now ≡ found.0.now ∷ words_of found.1.now) }
+{
+    let rest = without_blanks(line);
+    if rest.is_empty() {
+        return None;
+    }
+    Some(split_at_blank(rest))
+}
