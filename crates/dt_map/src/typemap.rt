@@ -1,7 +1,9 @@
-ghost use Rattle.std.specs.Prelude.{◌≡◌, IsOk, IsErrOf, IfOk, ◌↔◌};
-ghost use Rattle.dt_map.specs.Bounds.{bounds_of};
+ghost use Rattle.std.specs.Prelude.{◌≡◌, IsOk, IfOk, ◌↔◌, IsTrue};
+ghost use Rattle.dt_kinds.specs.Displacement.{FitsDisp};
+ghost use Rattle.dt_map.specs.Bounds.{bounds_of, end_of};
+ghost use Rattle.dt_map.specs.Limits.{EntryFits, Fits};
 
-use dt_kinds::Kind;
+use dt_kinds::{Kind, fits_disp};
 use std::marker::Model;
 use thiserror::Error;
 
@@ -49,13 +51,54 @@ pub struct FlatMap {
 
 impl Model for FlatMap {
     ghost use Rattle.dt_map.specs.Typemap.{Marked};
+    ghost use Rattle.dt_map.specs.Limits.{Fits};
 
     ghost Value = { Marked };
 
     ghost view = { λ a. record { entries = a.entries.items; marks = a.marks } };
+
+    ghost invariant = { λ a. Fits (record { entries = a.entries.items; marks = a.marks }) };
+}
+
+impl Entry {
+    /// Where the entry ends, in bytes.
+    fn end(self) -> i128
+        ensures { result ≡ end_of self }
+    {
+        i128::from(self.disp) + i128::from(self.kind.size())
+    }
+
+    /// Whether both where the entry begins and where it ends fit.
+    fn fits(self) -> bool
+        ensures { IsTrue result ↔ EntryFits self }
+    {
+        fits_disp(i128::from(self.disp)) && fits_disp(self.end())
+    }
+}
+
+impl Marks {
+    /// Whether both marks fit.
+    fn fit(self) -> bool
+        ensures { IsTrue result ↔ FitsDisp self.lb × FitsDisp self.ub }
+    {
+        fits_disp(i128::from(self.lb)) && fits_disp(i128::from(self.ub))
+    }
 }
 
 impl FlatMap {
+    /// A typemap of these entries in this order, with these marks. `Overflow` where a displacement, the end of an
+    /// entry or a mark is out of range. It takes no memory.
+    pub fn new(entries: Vec<Entry>, marks: Option<Marks>) -> Result<FlatMap, MapFault>
+        ensures ok { IfOk result (λ m. m ≡ record { entries = entries.items; marks = marks }) }
+        ensures in_range { IsOk result ↔ Fits (record { entries = entries.items; marks = marks }) }
+    {
+        if entries.iter().all(|e| e.fits()) && marks.is_none_or(|m| m.fit()) {
+            Ok(FlatMap { entries, marks })
+        } else {
+            Err(MapFault::Overflow)
+        }
+    }
+
     /// The entries in order.
     pub fn entries(&self) -> &[Entry]
         ensures { result.now ≡ self.now.entries }
