@@ -1,5 +1,5 @@
 ghost use Rattle.std.specs.Prelude.{◌≡◌, codes};
-ghost use Rattle.dt_kinds.specs.Kind.{native_size, name_of};
+ghost use Rattle.dt_kinds.specs.Kind.{native_size, external_size, is_signed, name_of};
 
 /// A basic type of MPI 4.1, section 3.2.2, without floating-point, complex and logical types.
 #[derive(Clone, Copy, Debug, PartialEq, Eq)]
@@ -49,6 +49,30 @@ impl Kind {
             Kind::Int | Kind::Unsigned | Kind::Int32 | Kind::Uint32 => 4,
             Kind::Long | Kind::UnsignedLong | Kind::LongLong | Kind::UnsignedLongLong => 8,
             Kind::Int64 | Kind::Uint64 | Kind::Aint | Kind::Count | Kind::Offset => 8,
+        }
+    }
+
+    /// The bytes of an element in external32 (MPI 4.1, section 14.5.2).
+    pub fn ext_size(self) -> u32
+        ensures { result ≡ external_size self }
+    {
+        match self {
+            Kind::Long | Kind::UnsignedLong => 4,
+            other => other.size(),
+        }
+    }
+
+    /// Whether the kind's values have a sign.
+    pub fn signed(self) -> bool
+        ensures { result ≡ is_signed self }
+    {
+        match self {
+            Kind::Char | Kind::SignedChar | Kind::Short | Kind::Int | Kind::Long => true,
+            Kind::LongLong | Kind::Int8 | Kind::Int16 | Kind::Int32 | Kind::Int64 => true,
+            Kind::Aint | Kind::Count | Kind::Offset => true,
+            Kind::Byte | Kind::UnsignedChar | Kind::UnsignedShort | Kind::Unsigned => false,
+            Kind::UnsignedLong | Kind::UnsignedLongLong => false,
+            Kind::Uint8 | Kind::Uint16 | Kind::Uint32 | Kind::Uint64 => false,
         }
     }
 
