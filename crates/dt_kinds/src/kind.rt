@@ -1,5 +1,7 @@
 ghost use Rattle.std.specs.Prelude.{◌≡◌, codes};
 ghost use Rattle.dt_kinds.specs.Kind.{native_size, external_size, is_signed, name_of};
+ghost use Rattle.dt_kinds.specs.Name.{kind_of, is_same_word};
+ghost use Rattle.std.specs.List.{list_any, find};
 
 /// A basic type of MPI 4.1, section 3.2.2, without floating-point, complex and logical types.
 #[derive(Clone, Copy, Debug, PartialEq, Eq)]
@@ -37,7 +39,80 @@ pub enum Rep {
     External32,
 }
 
+/// Why a word names no kind.
+#[derive(Clone, Copy, Debug, PartialEq, Eq)]
+pub enum KindFault {
+    /// It names an MPI datatype that this library leaves out.
+    Unsupported,
+    /// It is any other word.
+    Unknown,
+}
+
+const KINDS: [Kind; 23] = [
+    Kind::Byte,
+    Kind::Char,
+    Kind::SignedChar,
+    Kind::UnsignedChar,
+    Kind::Short,
+    Kind::UnsignedShort,
+    Kind::Int,
+    Kind::Unsigned,
+    Kind::Long,
+    Kind::UnsignedLong,
+    Kind::LongLong,
+    Kind::UnsignedLongLong,
+    Kind::Int8,
+    Kind::Int16,
+    Kind::Int32,
+    Kind::Int64,
+    Kind::Uint8,
+    Kind::Uint16,
+    Kind::Uint32,
+    Kind::Uint64,
+    Kind::Aint,
+    Kind::Count,
+    Kind::Offset,
+];
+
+const LEFT_OUT: [&str; 22] = [
+    "MPI_FLOAT",
+    "MPI_DOUBLE",
+    "MPI_LONG_DOUBLE",
+    "MPI_WCHAR",
+    "MPI_C_BOOL",
+    "MPI_C_COMPLEX",
+    "MPI_C_FLOAT_COMPLEX",
+    "MPI_C_DOUBLE_COMPLEX",
+    "MPI_C_LONG_DOUBLE_COMPLEX",
+    "MPI_PACKED",
+    "MPI_FLOAT_INT",
+    "MPI_DOUBLE_INT",
+    "MPI_LONG_INT",
+    "MPI_2INT",
+    "MPI_SHORT_INT",
+    "MPI_LONG_DOUBLE_INT",
+    "MPI_INTEGER",
+    "MPI_REAL",
+    "MPI_DOUBLE_PRECISION",
+    "MPI_COMPLEX",
+    "MPI_LOGICAL",
+    "MPI_CHARACTER",
+];
+
 impl Kind {
+    /// The kind that a word names. `MPI_LONG_LONG_INT` is another name of `MPI_LONG_LONG` (MPI 4.1, section 3.2.2).
+    pub fn of_name(word: &[u8]) -> Result<Kind, KindFault>
+        ensures { result ≡ kind_of word.now }
+    {
+        if is_one_of(word, &LEFT_OUT) {
+            return Err(KindFault::Unsupported);
+        }
+        if word == "MPI_LONG_LONG_INT".as_bytes() {
+            return Ok(Kind::LongLong);
+        }
+        first_named(word, &KINDS).ok_or(KindFault::Unknown)
+    }
+
     /// The bytes of an element in memory, which are its alignment too.
     pub fn size(self) -> u32
         ensures { result ≡ native_size self }
@@ -106,4 +181,21 @@ impl Kind {
             Kind::Offset => "MPI_OFFSET",
         }
     }
+}
+
+/// Whether a word is one of some names.
+fn is_one_of(word: &[u8], names: &[&str]) -> bool
+    ensures { result ≡ list_any (λ name. is_same_word name.now word.now) names.now }
+{
+    names.iter().any(|name| name.as_bytes() == word)
+}
+
+/// The first of some kinds whose name a word is.
+fn first_named(word: &[u8], kinds: &[Kind]) -> Option<Kind>
+    ensures { result ≡ find (λ kind. is_same_word (name_of kind) word.now) kinds.now }
+{
+    kinds
+        .iter()
+        .copied()
+        .find(|kind| kind.name().as_bytes() == word)
 }
