@@ -1,7 +1,8 @@
 ghost use Rattle.std.specs.Prelude.{◌≡◌, codes};
 ghost use Rattle.dt_kinds.specs.Kind.{native_size, external_size, is_signed, name_of};
-ghost use Rattle.dt_kinds.specs.Name.{kind_of, is_same_word};
+ghost use Rattle.dt_kinds.specs.Name.{kind_of};
 ghost use Rattle.std.specs.List.{list_any, find};
+ghost use Rattle.std.specs.Str.{bytes_eq};
 
 /// A basic type of MPI 4.1, section 3.2.2, without floating-point, complex and logical types.
 #[derive(Clone, Copy, Debug, PartialEq, Eq)]
@@ -185,17 +186,17 @@ impl Kind {
 
 /// Whether a word is one of some names.
 fn is_one_of(word: &[u8], names: &[&str]) -> bool
-    ensures { result ≡ list_any (λ name. is_same_word name.now word.now) names.now }
+    ensures { result ≡ list_any (λ name. bytes_eq word.now name.now) names.now }
 {
-    names.iter().any(|name| name.as_bytes() == word)
+    names.iter().any(|name| word == name.as_bytes())
 }
 
 /// The first of some kinds whose name a word is.
 fn first_named(word: &[u8], kinds: &[Kind]) -> Option<Kind>
-    ensures { result ≡ find (λ kind. is_same_word (name_of kind) word.now) kinds.now }
+    ensures { result ≡ find (λ kind. bytes_eq word.now (name_of kind)) kinds.now }
 {
     kinds
         .iter()
         .copied()
-        .find(|kind| kind.name().as_bytes() == word)
+        .find(|kind| word == kind.name().as_bytes())
 }

@@ -5,6 +5,7 @@ ghost use Rattle.std.specs.Prelude.{◌≡◌, ◌↔◌, IsTrue};
 ghost use Rattle.dt_kinds.specs.Displacement.{FitsDisp};
 
 pub mod kind;
+pub mod laws;
 
 pub use kind::{Kind, KindFault, Rep};
 

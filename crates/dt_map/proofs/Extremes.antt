@@ -6,8 +6,7 @@ use Rattle.std.proofs.lemmas.List.Elements.{All-head, All-tail}
 use Rattle.std.proofs.lemmas.List.Sums.{sum_by-le}
 use Rattle.std.specs.List.{All}
 use Rattle.std.specs.Int.{int_min, int_max}
-use Rattle.dt_kinds.specs.declared.kind.Kind.{Kind}
-use Rattle.dt_kinds.specs.declared.kind.Kind.TheVariants.{Byte}
+use Rattle.dt_kinds.proofs.Table.{native_size-le, external_size-le}
 use Rattle.dt_kinds.specs.Kind.{native_size, external_size}
 use Rattle.dt_map.specs.declared.typemap.Entry.{Entry}
 use Rattle.dt_map.specs.Bounds.{alignment, size_of, external_size_of, true_lb, true_ub, end_of}
@@ -41,14 +40,6 @@ pub greatest-append : (xs ys : List ℤ) → greatest (xs ++ ys) ≡ greater (gr
 greatest-append [] ys = refl
 greatest-append (x ∷ xs) ys = ap (greater (Some x)) (greatest-append xs ys) ∙ sym (greater_assoc (Some x) (greatest xs) (greatest ys))
 
-pub native_size-le : (kind : Kind) → native_size kind ≤ 8
-native_size-le Byte = lit≤ tt
-native_size-le _ = lit≤ tt
-
-pub external_size-le : (kind : Kind) → external_size kind ≤ 8
-external_size-le Byte = lit≤ tt
-external_size-le _ = lit≤ tt
-
 pub alignment-pos : (entries : List Entry) → 0 < alignment entries
 alignment-pos [] = omega arith
 alignment-pos (e ∷ entries) = let h = alignment-pos entries in omega arith
@@ -77,9 +68,6 @@ alignment_more es i d h =
 -- each entry takes at most eight bytes
 pub size-le : (es : List Entry) → size_of es ≤ length es * 8
 size-le es = sum_by-le (λ e. native_size e.kind) 8 es (λ k d h. native_size-le (slice_index_or es k d).kind)
-
-pub external_size-le-8 : (es : List Entry) → external_size_of es ≤ length es * 8
-external_size-le-8 es = sum_by-le (λ e. external_size e.kind) 8 es (λ k d h. external_size-le (slice_index_or es k d).kind)
 
 -- the true bounds of entries that fit do, and stand in order
 lesser_fits : (x : ℤ) (o : Option ℤ) → FitsDisp x → FitsDisp (unwrap_or o (pos 0)) → FitsDisp (unwrap_or (lesser (Some x) o) (pos 0))
