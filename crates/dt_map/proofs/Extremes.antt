@@ -66,8 +66,11 @@ alignment_more es i d h =
     omega arith
 
 -- each entry takes at most eight bytes
-pub size-le : (es : List Entry) → size_of es ≤ length es * 8
-size-le es = sum_by-le (λ e. native_size e.kind) 8 es (λ k d h. native_size-le (slice_index_or es k d).kind)
+pub size_of-le : (es : List Entry) → size_of es ≤ length es * 8
+size_of-le es = sum_by-le (λ e. native_size e.kind) 8 es (λ k d h. native_size-le (slice_index_or es k d).kind)
+
+pub external_size_of-le : (es : List Entry) → external_size_of es ≤ length es * 8
+external_size_of-le es = sum_by-le (λ e. external_size e.kind) 8 es (λ k d h. external_size-le (slice_index_or es k d).kind)
 
 -- the true bounds of entries that fit do, and stand in order
 lesser_fits : (x : ℤ) (o : Option ℤ) → FitsDisp x → FitsDisp (unwrap_or o (pos 0)) → FitsDisp (unwrap_or (lesser (Some x) o) (pos 0))

@@ -8,7 +8,7 @@ use mir.Val.{SFits}
 use Rattle.dt_kinds.specs.Kind.{native_size, external_size}
 use Rattle.dt_map.specs.declared.typemap.Entry.{Entry}
 use Rattle.dt_map.specs.Bounds.{end_of}
-use Rattle.dt_map.proofs.Extremes.{least_more, greatest_more, alignment_more, size-le, external_size-le-8, true_lb-fits, found_true_lb, found_true_ub, true_ub-fits, true_bounds_ordered, alignment-le}
+use Rattle.dt_map.proofs.Extremes.{least_more, greatest_more, alignment_more, size_of-le, external_size_of-le, true_lb-fits, found_true_lb, found_true_ub, true_ub-fits, true_bounds_ordered, alignment-le}
 use Rattle.dt_map.proofs.typemap.natural_bounds.Goals as goal
 
 abbrev none : Entry
@@ -16,11 +16,11 @@ none = record { kind = Byte; disp = pos 0 }
 
 pub overflow_add-size : goal.overflow_add-size
 overflow_add-size c =
-    omega (arith, sum_by_more_le (λ (e : Entry). native_size e.kind) c.args.entries.now c.entries.e-index none c.entries-test.true, size-le c.args.entries.now)
+    omega (arith, sum_by_more_le (λ (e : Entry). native_size e.kind) c.args.entries.now c.entries.e-index none c.entries-test.true, size_of-le c.args.entries.now)
 
 pub overflow_add-ext_size : goal.overflow_add-ext_size
 overflow_add-ext_size c =
-    omega (arith, sum_by_more_le (λ (e : Entry). external_size e.kind) c.args.entries.now c.entries.e-index none c.entries-test.true, external_size-le-8 c.args.entries.now)
+    omega (arith, sum_by_more_le (λ (e : Entry). external_size e.kind) c.args.entries.now c.entries.e-index none c.entries-test.true, external_size_of-le c.args.entries.now)
 
 pub entries-preserved : goal.entries-preserved
 entries-preserved c = record {
