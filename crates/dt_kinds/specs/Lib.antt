@@ -1,3 +1,5 @@
 pub mod Displacement
 pub mod Image
 pub mod Kind
+pub mod Laws
+pub mod Name

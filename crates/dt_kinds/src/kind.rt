@@ -1,5 +1,8 @@
 ghost use Rattle.std.specs.Prelude.{◌≡◌, codes};
-ghost use Rattle.dt_kinds.specs.Kind.{native_size, name_of};
+ghost use Rattle.dt_kinds.specs.Kind.{native_size, external_size, is_signed, name_of};
+ghost use Rattle.dt_kinds.specs.Name.{kind_of};
+ghost use Rattle.std.specs.List.{list_any, find};
+ghost use Rattle.std.specs.Str.{bytes_eq};
 
 /// A basic type of MPI 4.1, section 3.2.2, without floating-point, complex and logical types.
 #[derive(Clone, Copy, Debug, PartialEq, Eq)]
@@ -37,7 +40,80 @@ pub enum Rep {
     External32,
 }
 
+/// Why a word names no kind.
+#[derive(Clone, Copy, Debug, PartialEq, Eq)]
+pub enum KindFault {
+    /// It names an MPI datatype that this library leaves out.
+    Unsupported,
+    /// It is any other word.
+    Unknown,
+}
+
+const KINDS: [Kind; 23] = [
+    Kind::Byte,
+    Kind::Char,
+    Kind::SignedChar,
+    Kind::UnsignedChar,
+    Kind::Short,
+    Kind::UnsignedShort,
+    Kind::Int,
+    Kind::Unsigned,
+    Kind::Long,
+    Kind::UnsignedLong,
+    Kind::LongLong,
+    Kind::UnsignedLongLong,
+    Kind::Int8,
+    Kind::Int16,
+    Kind::Int32,
+    Kind::Int64,
+    Kind::Uint8,
+    Kind::Uint16,
+    Kind::Uint32,
+    Kind::Uint64,
+    Kind::Aint,
+    Kind::Count,
+    Kind::Offset,
+];
+
+const LEFT_OUT: [&str; 22] = [
+    "MPI_FLOAT",
+    "MPI_DOUBLE",
+    "MPI_LONG_DOUBLE",
+    "MPI_WCHAR",
+    "MPI_C_BOOL",
+    "MPI_C_COMPLEX",
+    "MPI_C_FLOAT_COMPLEX",
+    "MPI_C_DOUBLE_COMPLEX",
+    "MPI_C_LONG_DOUBLE_COMPLEX",
+    "MPI_PACKED",
+    "MPI_FLOAT_INT",
+    "MPI_DOUBLE_INT",
+    "MPI_LONG_INT",
+    "MPI_2INT",
+    "MPI_SHORT_INT",
+    "MPI_LONG_DOUBLE_INT",
+    "MPI_INTEGER",
+    "MPI_REAL",
+    "MPI_DOUBLE_PRECISION",
+    "MPI_COMPLEX",
+    "MPI_LOGICAL",
+    "MPI_CHARACTER",
+];
+
 impl Kind {
+    /// The kind that a word names. `MPI_LONG_LONG_INT` is another name of `MPI_LONG_LONG` (MPI 4.1, section 3.2.2).
+    pub fn of_name(word: &[u8]) -> Result<Kind, KindFault>
+        ensures { result ≡ kind_of word.now }
+    {
+        if is_one_of(word, &LEFT_OUT) {
+            return Err(KindFault::Unsupported);
+        }
+        if word == "MPI_LONG_LONG_INT".as_bytes() {
+            return Ok(Kind::LongLong);
+        }
+        first_named(word, &KINDS).ok_or(KindFault::Unknown)
+    }
+
     /// The bytes of an element in memory, which are its alignment too.
     pub fn size(self) -> u32
         ensures { result ≡ native_size self }
@@ -49,6 +125,30 @@ impl Kind {
             Kind::Int | Kind::Unsigned | Kind::Int32 | Kind::Uint32 => 4,
             Kind::Long | Kind::UnsignedLong | Kind::LongLong | Kind::UnsignedLongLong => 8,
             Kind::Int64 | Kind::Uint64 | Kind::Aint | Kind::Count | Kind::Offset => 8,
+        }
+    }
+
+    /// The bytes of an element in external32 (MPI 4.1, section 14.5.2).
+    pub fn ext_size(self) -> u32
+        ensures { result ≡ external_size self }
+    {
+        match self {
+            Kind::Long | Kind::UnsignedLong => 4,
+            other => other.size(),
+        }
+    }
+
+    /// Whether the kind's values have a sign.
+    pub fn signed(self) -> bool
+        ensures { result ≡ is_signed self }
+    {
+        match self {
+            Kind::Char | Kind::SignedChar | Kind::Short | Kind::Int | Kind::Long => true,
+            Kind::LongLong | Kind::Int8 | Kind::Int16 | Kind::Int32 | Kind::Int64 => true,
+            Kind::Aint | Kind::Count | Kind::Offset => true,
+            Kind::Byte | Kind::UnsignedChar | Kind::UnsignedShort | Kind::Unsigned => false,
+            Kind::UnsignedLong | Kind::UnsignedLongLong => false,
+            Kind::Uint8 | Kind::Uint16 | Kind::Uint32 | Kind::Uint64 => false,
         }
     }
 
@@ -82,4 +182,21 @@ impl Kind {
             Kind::Offset => "MPI_OFFSET",
         }
     }
+}
+
+/// Whether a word is one of some names.
+fn is_one_of(word: &[u8], names: &[&str]) -> bool
+    ensures { result ≡ list_any (λ name. bytes_eq word.now name.now) names.now }
+{
+    names.iter().any(|name| word == name.as_bytes())
+}
+
+/// The first of some kinds whose name a word is.
+fn first_named(word: &[u8], kinds: &[Kind]) -> Option<Kind>
+    ensures { result ≡ find (λ kind. bytes_eq word.now (name_of kind)) kinds.now }
+{
+    kinds
+        .iter()
+        .copied()
+        .find(|kind| word == kind.name().as_bytes())
 }

@@ -5,8 +5,9 @@ ghost use Rattle.std.specs.Prelude.{◌≡◌, ◌↔◌, IsTrue};
 ghost use Rattle.dt_kinds.specs.Displacement.{FitsDisp};
 
 pub mod kind;
+pub mod laws;
 
-pub use kind::{Kind, Rep};
+pub use kind::{Kind, KindFault, Rep};
 
 /// Memory ran out: the one answer that no clause ties to a cause.
 #[derive(Clone, Copy, Debug, PartialEq, Eq)]

@@ -30,9 +30,13 @@ true_lb entries = unwrap_or (least (map (λ e. e.disp) entries)) (pos 0)
 abbrev pub true_ub : List Entry → ℤ
 true_ub entries = unwrap_or (greatest (map end_of entries)) (pos 0)
 
--- the upper bound without marks (MPI 4.1, section 5.1): the true one, and as much as makes the extent a multiple of the alignment
+-- an upper bound that makes the extent a multiple of the alignment (MPI 4.1, section 5.1): the true one, and no more than that needs
+abbrev pub natural_end : ℤ → ℤ → ℕ → ℤ
+natural_end low high align = high +ℤ pos (padding (nat_abs (high -ℤ low)) align)
+
+-- the upper bound that the entries have without marks
 abbrev pub natural_ub : List Entry → ℤ
-natural_ub entries = true_ub entries +ℤ pos (padding (nat_abs (true_ub entries -ℤ true_lb entries)) (alignment entries))
+natural_ub entries = natural_end (true_lb entries) (true_ub entries) (alignment entries)
 
 -- the bounds: the marks where there are marks
 abbrev pub lower_from : Option Marks → List Entry → ℤ

@@ -1,5 +1,5 @@
-use Rattle.std.specs.Prelude.{ℕ, Bool, ◌&&◌, ◌+ℤ◌, ◌*ℤ◌, ℤ, pos, int_le, List}
-use Rattle.std.specs.List.{flat_map, list_all}
+use Rattle.std.specs.Prelude.{ℕ, ◌<◌, Bool, ◌&&◌, ◌+ℤ◌, ◌*ℤ◌, ℤ, ◌≤ℤ◌, ◌<ℤ◌, pos, int_le, List, length}
+use Rattle.std.specs.List.{flat_map, list_all, HoldsAt}
 use Rattle.dt_map.specs.declared.typemap.Entry.{Entry}
 use Rattle.dt_map.specs.Numbers.{below}
 use Rattle.dt_map.specs.Typemap.{Marked, shift}
@@ -17,3 +17,11 @@ lies_inside len e = int_le (pos 0) e.disp && int_le (end_of e) (pos len)
 -- whether each element does
 abbrev pub are_inside : ℕ → List Entry → Bool
 are_inside len es = list_all (lies_inside len) es
+
+-- a byte of an element
+abbrev pub IsByteOf : ℤ → Entry → Type 0
+IsByteOf x e = (e.disp ≤ℤ x) × (x <ℤ end_of e)
+
+-- two different places of the list name elements with a common byte
+abbrev pub Overlaps : List Entry → Type 0
+Overlaps es = (i : ℕ) × (j : ℕ) × (x : ℤ) × (i < j) × (j < length es) × HoldsAt (IsByteOf x) es i × HoldsAt (IsByteOf x) es j

@@ -1,7 +1,12 @@
 pub mod Bounds
 pub mod Constructors
+pub mod Counts
 pub mod Elements
+pub mod Laws
+pub mod Limits
 pub mod Numbers
 pub mod Packed
 pub mod Placing
+pub mod Setting
+pub mod Summary
 pub mod Typemap

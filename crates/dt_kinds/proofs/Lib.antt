@@ -1,0 +1,2 @@
+pub mod Displacement
+pub mod Table

@@ -1,0 +1,64 @@
+use Rattle.std.specs.Prelude.{◌≡◌, ℕ, zero, suc, ◌+◌, ◌%◌, ◌≤◌, ◌<◌, ◌+ℤ◌, ◌-ℤ◌, ◌*ℤ◌, ◌≤ℤ◌, ℤ, pos, nat_abs, Some, List, [], ◌∷◌, ◌++◌, map, length, take}
+use Rattle.std.specs.Int.{int_min, int_max}
+use Rattle.std.specs.List.{flat_map}
+use Rattle.dt_kinds.specs.declared.kind.Rep.{Rep}
+use Rattle.dt_map.specs.declared.typemap.Entry.{Entry}
+use Rattle.dt_map.specs.Numbers.{below, padding}
+use Rattle.dt_map.specs.Typemap.{Marked}
+use Rattle.dt_map.specs.Bounds.{bounds_of, alignment, true_lb, true_ub, natural_ub}
+use Rattle.dt_map.specs.Placing.{place}
+use Rattle.dt_map.specs.Constructors.{copies_at}
+use Rattle.dt_map.specs.Packed.{total}
+use Rattle.dt_map.specs.Setting.{done}
+use Rattle.dt_map.specs.Summary.{summary_of, no_summary, shifted, joined, copied, reach_of, bounds_from}
+
+-- the padding makes a number a multiple, and no lesser one does
+abbrev pub PaddingIsLeast : Type 0
+PaddingIsLeast = (n a : ℕ) → 0 < a → ((n + padding n a) % a ≡ 0) × ((e : ℕ) → (n + e) % a ≡ 0 → padding n a ≤ e)
+
+-- the natural upper bound is the least number from the true one on that makes the extent a multiple of the alignment
+abbrev pub NaturalIsLeast : Type 0
+NaturalIsLeast =
+    (es : List Entry) → (true_ub es ≤ℤ natural_ub es)
+    × (nat_abs (natural_ub es -ℤ true_lb es) % alignment es ≡ 0)
+    × ((u : ℤ) → true_ub es ≤ℤ u → nat_abs (u -ℤ true_lb es) % alignment es ≡ 0 → natural_ub es ≤ℤ u)
+
+-- bounds are made from a summary
+abbrev pub BoundsFromSummary : Type 0
+BoundsFromSummary = (m : Marked) → bounds_of m ≡ bounds_from (summary_of m)
+
+-- the summary of nothing placed, of one typemap placed, and of more of them
+abbrev pub SummaryOfNone : Type 0
+SummaryOfNone = summary_of (place []) ≡ no_summary
+
+abbrev pub SummaryOfShifted : Type 0
+SummaryOfShifted = (x : ℤ) (m : Marked) → summary_of (place ((x, m) ∷ [])) ≡ shifted x (summary_of m)
+
+abbrev pub SummaryOfJoined : Type 0
+SummaryOfJoined =
+    (ms ns : List (ℤ × Marked)) → summary_of (place (ms ++ ns)) ≡ joined (summary_of (place ms)) (summary_of (place ns))
+
+-- the summary of copies at offsets takes their number and their reach alone
+abbrev pub SummaryOfCopies : Type 0
+SummaryOfCopies = (offsets : List ℤ) (m : Marked) → summary_of (copies_at offsets m) ≡ copied (reach_of offsets) (length offsets) (summary_of m)
+
+-- the reach of joined offsets, of offsets further on, and of n + 1 offsets with an even step
+abbrev pub ReachOfEven : Type 0
+ReachOfEven =
+    (first step : ℤ) (n : ℕ) → reach_of (map (λ i. first +ℤ (pos i *ℤ step)) (below (suc n)))
+    ≡ Some (record { lb = int_min first (first +ℤ (pos n *ℤ step)); ub = int_max first (first +ℤ (pos n *ℤ step)) })
+
+-- members further on
+abbrev pub further : ℤ → List (ℤ × Marked) → List (ℤ × Marked)
+further x members = map (λ member. (member.0 +ℤ x, member.1)) members
+
+-- placing what was placed is placing once, at the sums of the offsets
+abbrev pub PlacingOfPlacing : Type 0
+PlacingOfPlacing = (groups : List (ℤ × List (ℤ × Marked))) → place (map (λ group. (group.0, place group.1)) groups) ≡ place (flat_map (λ group. further group.0 group.1) groups)
+
+-- `done` is the greatest number of leading elements whose packed bytes are at most n
+abbrev pub DoneIsGreatest : Type 0
+DoneIsGreatest =
+    (rep : Rep) (es : List Entry) (n : ℕ) → (done rep es n ≤ length es)
+    × (total rep (take (done rep es n) es) ≤ n)
+    × ((k : ℕ) → k ≤ length es → total rep (take k es) ≤ n → k ≤ done rep es n)

@@ -1,0 +1,113 @@
+use Rattle.std.specs.Prelude.{Option, Some, None, ℕ, zero, suc, ◌+◌, ◌*◌, max, ◌+ℤ◌, ℤ, pos, List, [], ◌∷◌, length}
+use Rattle.dt_map.specs.declared.typemap.Entry.{Entry}
+use Rattle.dt_map.specs.declared.typemap.Marks.{Marks}
+use Rattle.dt_map.specs.declared.typemap.Bounds.{Bounds}
+use Rattle.dt_map.specs.Typemap.{Marked, shift_marks}
+use Rattle.dt_map.specs.Bounds.{end_of, size_of, external_size_of, alignment, natural_end}
+use Rattle.dt_map.specs.Placing.{joined_marks}
+
+-- the least displacement and the greatest end, none without entries
+abbrev pub span_of : List Entry → Option Marks
+span_of [] = None
+span_of (e ∷ entries) = joined_marks (Some (record { lb = e.disp; ub = end_of e })) (span_of entries)
+
+-- the least and the greatest of some offsets, none without offsets
+abbrev pub reach_of : List ℤ → Option Marks
+reach_of [] = None
+reach_of (x ∷ offsets) = joined_marks (Some (record { lb = x; ub = x })) (reach_of offsets)
+
+-- where bounds come to, over copies at offsets of this reach
+abbrev pub stretched : Option Marks → Option Marks → Option Marks
+stretched None bounds = None
+stretched (Some reach) None = None
+stretched (Some reach) (Some bounds) = Some (record { lb = bounds.lb +ℤ reach.lb; ub = bounds.ub +ℤ reach.ub })
+
+-- all that the bounds of a marked typemap are made from, in a form that copies and joins by arithmetic
+pub record Summary : Type 0 where
+  pub size : ℕ
+  pub ext_size : ℕ
+  pub elements : ℕ
+  pub align : ℕ
+  pub span : Option Marks
+  pub marks : Option Marks
+
+abbrev pub summary_of : Marked → Summary
+summary_of m = record {
+  size = size_of m.entries;
+  ext_size = external_size_of m.entries;
+  elements = length m.entries;
+  align = alignment m.entries;
+  span = span_of m.entries;
+  marks = m.marks;
+}
+
+-- the summary of no entries and no marks
+abbrev pub no_summary : Summary
+no_summary = record { size = 0; ext_size = 0; elements = 0; align = 1; span = None; marks = None }
+
+-- x bytes further on
+abbrev pub shifted : ℤ → Summary → Summary
+shifted x s = record {
+  size = s.size;
+  ext_size = s.ext_size;
+  elements = s.elements;
+  align = s.align;
+  span = shift_marks x s.span;
+  marks = shift_marks x s.marks;
+}
+
+-- two typemaps, one after the other
+abbrev pub joined : Summary → Summary → Summary
+joined a b = record {
+  size = a.size + b.size;
+  ext_size = a.ext_size + b.ext_size;
+  elements = a.elements + b.elements;
+  align = max a.align b.align;
+  span = joined_marks a.span b.span;
+  marks = joined_marks a.marks b.marks;
+}
+
+-- no copy has no alignment of its own
+abbrev pub copied_align : ℕ → ℕ → ℕ
+copied_align zero align = 1
+copied_align (suc n) align = align
+
+-- n copies at offsets of this reach
+abbrev pub copied : Option Marks → ℕ → Summary → Summary
+copied reach n s = record {
+  size = n * s.size;
+  ext_size = n * s.ext_size;
+  elements = n * s.elements;
+  align = copied_align n s.align;
+  span = stretched reach s.span;
+  marks = stretched reach s.marks;
+}
+
+-- the bounds that a summary gives
+abbrev pub lb_or_zero : Option Marks → ℤ
+lb_or_zero None = pos 0
+lb_or_zero (Some m) = m.lb
+
+abbrev pub ub_or_zero : Option Marks → ℤ
+ub_or_zero None = pos 0
+ub_or_zero (Some m) = m.ub
+
+abbrev pub lb_from : Option Marks → Option Marks → ℤ
+lb_from None span = lb_or_zero span
+lb_from (Some marks) span = marks.lb
+
+abbrev pub ub_from : Option Marks → Option Marks → ℕ → ℤ
+ub_from None span align = natural_end (lb_or_zero span) (ub_or_zero span) align
+ub_from (Some marks) span align = marks.ub
+
+abbrev pub bounds_from : Summary → Bounds
+bounds_from s = record {
+  size = s.size;
+  ext_size = s.ext_size;
+  elements = s.elements;
+  align = s.align;
+  true_lb = lb_or_zero s.span;
+  true_ub = ub_or_zero s.span;
+  lb = lb_from s.marks s.span;
+  ub = ub_from s.marks s.span s.align;
+}
