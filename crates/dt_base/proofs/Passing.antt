@@ -1,0 +1,21 @@
+-- Lemmas on bytes that pass in several calls.
+use Rattle.std.proofs.Common.{◌≡◌, ℕ, ◌+◌, ◌-◌, ◌≤◌, Option, List, ◌++◌, arith, length, take, drop, sym, subst, length-append, length-take-le}
+use Rattle.std.proofs.Math.Seq.{take-add}
+use Rattle.std.proofs.lemmas.List.{take_rest}
+use Rattle.std.proofs.KnownBytes.{Appends-trans, Consumes-trans}
+use Rattle.std.specs.Io.KnownBytes.{Appends, Consumes}
+use Rattle.dt_base.specs.Counter.{counted}
+use Rattle.dt_base.specs.Transfer.{TakesFront}
+
+-- a front of a piece was appended, and then a front of what was left of it
+pub Appends-front_more : (a b c : Option (List ℕ)) (piece : List ℕ) (done n : ℕ) → Appends a b (take done piece)
+    → Appends b c (take n (take (length piece - done) (drop done piece))) → Appends a c (take (done + n) piece)
+Appends-front_more a b c piece done n first second =
+    let second = subst (λ rest. Appends b c (take n rest)) (take_rest piece done) second in
+    subst (Appends a c) (sym (take-add done n piece)) (Appends-trans a b c _ _ first second)
+
+-- bytes were taken, and then the first n of a buffer
+pub TakesFront-more : (a b c : Option (List ℕ)) (before between now n : ℕ) (bytes out : List ℕ) → Consumes a b bytes → between ≡ counted before (length bytes)
+    → n ≤ length out → Consumes b c (take n out) → now ≡ counted between n → TakesFront a c before now
+TakesFront-more a b c before between now n bytes out first first_count within second second_count =
+    (bytes ++ take n out, Consumes-trans a b c bytes (take n out) first second, omega (arith, length-append bytes (take n out), length-take-le n out within))

@@ -1,0 +1,12 @@
+//! What lies outside: sources to read from and sinks to write to, in memory and over std's readers and writers.
+#![tactic(auto)]
+
+pub mod sink;
+pub mod source;
+
+pub use sink::{Sink, write_all};
+pub use source::{READ_MAX, ReadEnd, Source, read_all};
+
+/// A read or a write failed. What it was asked for did not happen: nothing was taken or appended.
+#[derive(Clone, Copy, Debug, PartialEq, Eq)]
+pub struct Failed;
