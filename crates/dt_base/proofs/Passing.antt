@@ -1,5 +1,5 @@
 -- Lemmas on bytes that pass in several calls.
-use Rattle.std.proofs.Common.{◌≡◌, ℕ, ◌+◌, ◌-◌, ◌≤◌, Option, List, ◌++◌, arith, length, take, drop, sym, subst, length-append, length-take-le}
+use Rattle.std.proofs.Common.{◌≡◌, ℕ, ◌+◌, ◌-◌, ◌<◌, ◌≤◌, min, Option, List, [], ◌++◌, arith, ap, ◌∙◌, take-append-drop, drop_of_length-le, length, take, drop, sym, subst, length-append, length-take-le}
 use Rattle.std.proofs.Math.Seq.{take-add}
 use Rattle.std.proofs.lemmas.List.{take_rest}
 use Rattle.std.proofs.KnownBytes.{Appends-trans, Consumes-trans}
@@ -19,3 +19,11 @@ pub TakesFront-more : (a b c : Option (List ℕ)) (before between now n : ℕ) (
     → n ≤ length out → Consumes b c (take n out) → now ≡ counted between n → TakesFront a c before now
 TakesFront-more a b c before between now n bytes out first first_count within second second_count =
     (bytes ++ take n out, Consumes-trans a b c bytes (take n out) first second, omega (arith, length-append bytes (take n out), length-take-le n out within))
+
+-- a read gave the first n of the bytes left, which are none only where there are none or there is no room
+pub reads_front : (old new out : List ℕ) (n most : ℕ) → take n out ≡ take n old → new ≡ drop n old → n ≡ min most (min (length old) (length out)) → 1 ≤ most
+    → (old ≡ take n out ++ new) × (n ≡ 0 → 0 < length out → new ≡ [])
+reads_front old new out n most front rest least some = (
+  sym (take-append-drop n old) ∙ ap (λ l. l ++ drop n old) (sym front) ∙ ap (λ l. take n out ++ l) (sym rest),
+  λ none room. rest ∙ drop_of_length-le old {i = n} (omega arith),
+)

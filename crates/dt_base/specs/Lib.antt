@@ -1,2 +1,4 @@
 pub mod Counter
+pub mod MemSink
+pub mod MemSource
 pub mod Transfer
