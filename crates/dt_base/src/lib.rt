@@ -1,11 +1,13 @@
 //! What lies outside: sources to read from and sinks to write to, in memory and over std's readers and writers.
 #![tactic(auto)]
 
+pub mod adapters;
 pub mod mem_sink;
 pub mod mem_source;
 pub mod sink;
 pub mod source;
 
+pub use adapters::{StdSink, StdSource};
 pub use mem_sink::MemSink;
 pub use mem_source::MemSource;
 pub use sink::{Sink, write_all};

@@ -1,0 +1,116 @@
+ghost use Rattle.std.specs.Prelude.{◌≡◌, None};
+ghost use Rattle.std.specs.Io.{WritesAtMost};
+ghost use Rattle.dt_base.specs.Transfer.{TakesSome};
+
+use crate::{Failed, Sink, Source};
+use std::io::{Read, Write};
+use std::marker::Model;
+
+const PIECE: usize = 4096;
+
+/// A source over a reader of std, as `main` makes one of standard input. It doesn't tell its bytes, and
+/// each `Err` of the reader is a fault.
+#[derive(Drop)]
+pub struct StdSource<R: Read + Drop> {
+    reader: R,
+    faults: u64,
+    taken: u64,
+}
+
+impl<R: Read + Drop> Model for StdSource<R> {
+    ghost use Rattle.dt_base.specs.StdSource.{SourceCounts};
+
+    ghost Value = { SourceCounts };
+
+    ghost view = { λ s. record { faults = s.faults; taken = s.taken } };
+}
+
+impl<R: Read + Drop> StdSource<R> {
+    /// A source of what the reader gives.
+    pub fn new(reader: R) -> StdSource<R>
+        ensures { result ≡ record { faults = 0; taken = 0 } }
+    {
+        StdSource {
+            reader,
+            faults: 0,
+            taken: 0,
+        }
+    }
+}
+
+impl<R: Read + Drop> Source for StdSource<R> {
+    ghost left = { λ _. None };
+
+    ghost faults = { λ s. s.faults };
+
+    ghost taken = { λ s. s.taken };
+
+    fn read(&mut self, out: &mut [u8]) -> Result<usize, Failed> {
+        let mut piece = [0; PIECE];
+        let room = out.len().min(PIECE);
+        let Ok(count) = self.reader.read(&mut piece[..room]) else {
+            self.faults = self.faults.saturating_add(1);
+            return Err(Failed);
+        };
+        out[..count].copy_from_slice(&piece[..count]);
+        self.taken = self.taken.saturating_add(count as u64);
+        Ok(count)
+    }
+}
+
+/// A sink over a writer of std, as `main` makes one of standard output. It doesn't tell its bytes. It
+/// flushes after each piece, and a fault is each `Err` of the writer and each write that takes nothing of
+/// a piece that isn't empty.
+#[derive(Drop)]
+pub struct StdSink<W: Write + Drop> {
+    writer: W,
+    faults: u64,
+}
+
+impl<W: Write + Drop> Model for StdSink<W> {
+    ghost use Rattle.std.specs.Prelude.{ℕ};
+
+    ghost Value = { ℕ };
+
+    ghost view = { λ s. s.faults };
+}
+
+impl<W: Write + Drop> StdSink<W> {
+    /// A sink that passes on what it is given to the writer. Contracts see its count of faults.
+    pub fn new(writer: W) -> StdSink<W>
+        ensures { result ≡ 0 }
+    {
+        StdSink { writer, faults: 0 }
+    }
+}
+
+impl<W: Write + Drop> Sink for StdSink<W> {
+    ghost held = { λ _. None };
+
+    ghost faults = { λ faults. faults };
+
+    fn write(&mut self, piece: &[u8]) -> Result<usize, Failed> {
+        let passed = pass_on(&mut self.writer, piece);
+        if passed.is_err() {
+            self.faults = self.faults.saturating_add(1);
+        }
+        passed
+    }
+}
+
+// One write and a flush. `Failed` where either fails, or where none of a piece that has some was taken.
+fn pass_on<W: Write>(writer: &mut W, piece: &[u8]) -> Result<usize, Failed>
+    ensures bound { WritesAtMost result piece.now }
+    ensures some { TakesSome result piece.now }
+{
+    let Ok(count) = writer.write(piece) else {
+        return Err(Failed);
+    };
+    let Ok(()) = writer.flush() else {
+        return Err(Failed);
+    };
+    if count == 0 && !piece.is_empty() {
+        return Err(Failed);
+    }
+    Ok(count)
+}
