@@ -4,10 +4,6 @@ use Rattle.std.specs.Prelude.{ℕ, ◌+◌, ◌-◌, ◌^◌, ◌≤◌, min, ma
 abbrev pub counted : ℕ → ℕ → ℕ
 counted before n = max before (min (before + n) (2 ^ 64 - 1))
 
--- a count rose by n or more, or stands at its last value
-abbrev pub RoseBy : ℕ → ℕ → ℕ → Type 0
-RoseBy n before now = min (before + n) (2 ^ 64 - 1) ≤ now
-
--- a count rose, or stands at its last value
+-- a count rose: it is greater now, or stands at its last value
 abbrev pub Rose : ℕ → ℕ → Type 0
-Rose before now = RoseBy 1 before now
+Rose before now = min (before + 1) (2 ^ 64 - 1) ≤ now

@@ -1,4 +1,4 @@
-use Rattle.std.specs.Prelude.{◌≡◌, ℕ, ◌-◌, ◌<◌, ◌⊎◌, List, [], ◌++◌, Contains, length, take, min}
+use Rattle.std.specs.Prelude.{◌≡◌, ℕ, ◌-◌, ◌<◌, ◌⊎◌, List, [], ◌++◌, Contains, Result, Ok, Err, length, take, min}
 use Rattle.dt_base.specs.Counter.{counted}
 
 -- a sink in memory: the bytes that it holds, how many more there is room for, the most that a write takes, the numbers of the
@@ -23,10 +23,7 @@ WriteFails s piece = Contains s.fail s.writes ⊎ ((0 < length piece) × (s.room
 abbrev pub accepted : SinkState → List ℕ → ℕ
 accepted s piece = min s.most (min s.room (length piece))
 
--- it after a write that took the first n bytes of a piece
-abbrev pub after_write : SinkState → List ℕ → ℕ → SinkState
-after_write s piece n = record s { held = s.held ++ take n piece; room = s.room - n; writes = counted s.writes 1 }
-
--- it after a write that failed
-abbrev pub after_failed_write : SinkState → SinkState
-after_failed_write s = record s { writes = counted s.writes 1; faults = counted s.faults 1 }
+-- it after a write of a piece, by what that answered
+abbrev pub after_write : {E : Type 0} → SinkState → List ℕ → Result ℕ E → SinkState
+after_write s piece (Ok n) = record s { held = s.held ++ take n piece; room = s.room - n; writes = counted s.writes 1 }
+after_write s piece (Err e) = record s { writes = counted s.writes 1; faults = counted s.faults 1 }

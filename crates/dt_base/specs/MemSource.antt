@@ -1,4 +1,4 @@
-use Rattle.std.specs.Prelude.{◌≡◌, ℕ, List, Contains, drop, length, min}
+use Rattle.std.specs.Prelude.{ℕ, List, Contains, Result, Ok, Err, drop, length, min}
 use Rattle.dt_base.specs.Counter.{counted}
 
 -- a source in memory: the bytes left, the most that a read gives, the numbers of the reads that fail, the number of the next
@@ -23,10 +23,7 @@ ReadFails s = Contains s.fail s.reads
 abbrev pub given : SourceState → ℕ → ℕ
 given s room = min s.most (min (length s.left) room)
 
--- it after a read that gave n bytes
-abbrev pub after_read : SourceState → ℕ → SourceState
-after_read s n = record s { left = drop n s.left; reads = counted s.reads 1; taken = counted s.taken n }
-
--- it after a read that failed
-abbrev pub after_failed_read : SourceState → SourceState
-after_failed_read s = record s { reads = counted s.reads 1; faults = counted s.faults 1 }
+-- it after a read, by what that answered
+abbrev pub after_read : {E : Type 0} → SourceState → Result ℕ E → SourceState
+after_read s (Ok n) = record s { left = drop n s.left; reads = counted s.reads 1; taken = counted s.taken n }
+after_read s (Err e) = record s { reads = counted s.reads 1; faults = counted s.faults 1 }

@@ -1,24 +1,26 @@
-ghost use Rattle.std.specs.Prelude.{◌≡◌, None};
-ghost use Rattle.std.specs.Io.{WritesAtMost};
-ghost use Rattle.dt_base.specs.Transfer.{TakesSome};
+ghost use Rattle.std.specs.Prelude.{◌≡◌, ◌≤◌, None, OnErr};
+ghost use Rattle.std.specs.Result.{result_unwrap_or};
+ghost use Rattle.std.specs.Io.{ReadsAtMost, WritesAtMost};
+ghost use Rattle.std.specs.Io.KnownBytes.{ReadConsumes, WriteAppends};
+ghost use Rattle.dt_base.specs.Adapters.{no_counts, counts_after, faults_after};
+ghost use Rattle.dt_base.specs.Counter.{counted, Rose};
+ghost use Rattle.dt_base.specs.Transfer.{KeepsRest, TakesSome};
 
-use crate::{Failed, Sink, Source};
+use crate::{Failed, PIECE, Sink, Source};
 use std::io::{Read, Write};
 use std::marker::Model;
-
-const PIECE: usize = 4096;
 
 /// A source over a reader of std, as `main` makes one of standard input. It doesn't tell its bytes, and
 /// each `Err` of the reader is a fault.
 #[derive(Drop)]
-pub struct StdSource<R: Read + Drop> {
+pub struct StdSource<R> {
     reader: R,
     faults: u64,
     taken: u64,
 }
 
-impl<R: Read + Drop> Model for StdSource<R> {
-    ghost use Rattle.dt_base.specs.StdSource.{SourceCounts};
+impl<R> Model for StdSource<R> {
+    ghost use Rattle.dt_base.specs.Adapters.{SourceCounts};
 
     ghost Value = { SourceCounts };
 
@@ -28,7 +30,7 @@ impl<R: Read + Drop> Model for StdSource<R> {
 impl<R: Read + Drop> StdSource<R> {
     /// A source of what the reader gives.
     pub fn new(reader: R) -> StdSource<R>
-        ensures { result ≡ record { faults = 0; taken = 0 } }
+        ensures { result ≡ no_counts }
     {
         StdSource {
             reader,
@@ -45,7 +47,17 @@ impl<R: Read + Drop> Source for StdSource<R> {
 
     ghost taken = { λ s. s.taken };
 
-    fn read(&mut self, out: &mut [u8]) -> Result<usize, Failed> {
+    fn read(&mut self, out: &mut [u8]) -> Result<usize, Failed>
+        ensures after { self.new ≡ counts_after self.old result }
+
+        // What each source does.
+        ensures bound { ReadsAtMost result out.new }
+        ensures bytes { ReadConsumes None None result out.new }
+        ensures rest { KeepsRest result out.old out.new }
+        ensures count { self.new.taken ≡ counted self.old.taken (result_unwrap_or result 0) }
+        ensures faults { self.old.faults ≤ self.new.faults }
+        ensures failed { OnErr result (Rose self.old.faults self.new.faults) }
+    {
         let mut piece = [0; PIECE];
         let room = out.len().min(PIECE);
         let Ok(count) = self.reader.read(&mut piece[..room]) else {
@@ -62,12 +74,12 @@ impl<R: Read + Drop> Source for StdSource<R> {
 /// flushes after each piece, and a fault is each `Err` of the writer and each write that takes nothing of
 /// a piece that isn't empty.
 #[derive(Drop)]
-pub struct StdSink<W: Write + Drop> {
+pub struct StdSink<W> {
     writer: W,
     faults: u64,
 }
 
-impl<W: Write + Drop> Model for StdSink<W> {
+impl<W> Model for StdSink<W> {
     ghost use Rattle.std.specs.Prelude.{ℕ};
 
     ghost Value = { ℕ };
@@ -89,7 +101,16 @@ impl<W: Write + Drop> Sink for StdSink<W> {
 
     ghost faults = { λ faults. faults };
 
-    fn write(&mut self, piece: &[u8]) -> Result<usize, Failed> {
+    fn write(&mut self, piece: &[u8]) -> Result<usize, Failed>
+        ensures after { self.new ≡ faults_after self.old result }
+
+        // What each sink does.
+        ensures bound { WritesAtMost result piece.now }
+        ensures some { TakesSome result piece.now }
+        ensures bytes { WriteAppends None None result piece.now }
+        ensures faults { self.old ≤ self.new }
+        ensures failed { OnErr result (Rose self.old self.new) }
+    {
         let passed = pass_on(&mut self.writer, piece);
         if passed.is_err() {
             self.faults = self.faults.saturating_add(1);

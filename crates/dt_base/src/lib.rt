@@ -16,3 +16,6 @@ pub use source::{READ_MAX, ReadEnd, Source, read_all};
 /// A read or a write failed. What it was asked for did not happen: nothing was taken or appended.
 #[derive(Clone, Copy, Debug, PartialEq, Eq)]
 pub struct Failed;
+
+// The bytes that are read at a time, into an array.
+const PIECE: usize = 4096;

@@ -2,7 +2,7 @@ ghost use Rattle.std.specs.Prelude.{◌≡◌, ◌↔◌, ◌≤◌, Some, IsErr
 ghost use Rattle.std.specs.Io.{WritesAtMost};
 ghost use Rattle.std.specs.Io.KnownBytes.{WriteAppends};
 ghost use Rattle.dt_base.specs.Counter.{Rose};
-ghost use Rattle.dt_base.specs.MemSink.{sink_of, WriteFails, accepted, after_write, after_failed_write};
+ghost use Rattle.dt_base.specs.MemSink.{sink_of, WriteFails, accepted, after_write};
 ghost use Rattle.dt_base.specs.Transfer.{TakesSome};
 
 use crate::{Failed, Sink};
@@ -76,8 +76,7 @@ impl Sink for MemSink {
     fn write(&mut self, piece: &[u8]) -> Result<usize, Failed>
         ensures fails { IsErr result ↔ WriteFails self.old piece.now }
         ensures takes { IfOk result (λ n. n ≡ accepted self.old piece.now) }
-        ensures after { IfOk result (λ n. self.new ≡ after_write self.old piece.now n) }
-        ensures after_failed { OnErr result (self.new ≡ after_failed_write self.old) }
+        ensures after { self.new ≡ after_write self.old piece.now result }
 
         // What each sink does.
         ensures bound { WritesAtMost result piece.now }

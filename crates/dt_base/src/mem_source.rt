@@ -3,7 +3,7 @@ ghost use Rattle.std.specs.Result.{result_unwrap_or};
 ghost use Rattle.std.specs.Io.{ReadsAtMost};
 ghost use Rattle.std.specs.Io.KnownBytes.{ReadConsumes};
 ghost use Rattle.dt_base.specs.Counter.{counted, Rose};
-ghost use Rattle.dt_base.specs.MemSource.{source_of, ReadFails, given, after_read, after_failed_read};
+ghost use Rattle.dt_base.specs.MemSource.{source_of, ReadFails, given, after_read};
 ghost use Rattle.dt_base.specs.Transfer.{KeepsRest};
 
 use crate::{Failed, Source};
@@ -77,8 +77,7 @@ impl Source for MemSource {
         ensures fails { IsErr result ↔ ReadFails self.old }
         ensures gives { IfOk result (λ n. n ≡ given self.old (length out.old)) }
         ensures front { IfOk result (λ n. take n out.new ≡ take n self.old.left) }
-        ensures after { IfOk result (λ n. self.new ≡ after_read self.old n) }
-        ensures after_failed { OnErr result (self.new ≡ after_failed_read self.old) }
+        ensures after { self.new ≡ after_read self.old result }
 
         // What each source does.
         ensures bound { ReadsAtMost result out.new }

@@ -5,7 +5,7 @@ ghost use Rattle.std.specs.Io.KnownBytes.{Consumes, ReadConsumes};
 ghost use Rattle.dt_base.specs.Counter.{counted, Rose};
 ghost use Rattle.dt_base.specs.Transfer.{KeepsRest, ReadsAll, TakesFront};
 
-use crate::Failed;
+use crate::{Failed, PIECE};
 use std::alloc::Global;
 use thiserror::Error;
 
@@ -45,8 +45,6 @@ pub enum ReadEnd {
 
 /// The greatest limit of `read_all`, in bytes.
 pub const READ_MAX: usize = 16_777_216;
-
-const PIECE: usize = 4096;
 
 /// Reads all that is left, which may be `limit` bytes. A source that fails, that has more, or whose
 /// bytes find no memory has lost those that were taken until then. Each turn but the last takes at
