@@ -1,21 +1,25 @@
-use Rattle.std.specs.Prelude.{ℕ, Result, Ok, Err}
+use Rattle.std.specs.Prelude.{ℕ, Option, List, Result, Ok, Err, take}
+use Rattle.std.specs.Io.KnownBytes.{Appends}
 use Rattle.dt_base.specs.Counter.{counted}
+use Rattle.dt_base.specs.Transfer.{AppendsFront}
 
--- what there is to know of a source over a reader of std: its counts
-pub record SourceCounts : Type 0 where
+-- a source over a reader of std: the reader, and its counts
+pub record OverReader (R : Type 0) : Type 0 where
+  pub reader : R
   pub faults : ℕ
   pub taken : ℕ
 
--- a new one
-abbrev pub no_counts : SourceCounts
-no_counts = record { faults = 0; taken = 0 }
+-- a sink over a writer of std: the writer, and its count of faults
+pub record OverWriter (W : Type 0) : Type 0 where
+  pub writer : W
+  pub faults : ℕ
 
--- the counts after a read, by what that answered
-abbrev pub counts_after : {E : Type 0} → SourceCounts → Result ℕ E → SourceCounts
-counts_after s (Ok n) = record s { taken = counted s.taken n }
-counts_after s (Err e) = record s { faults = counted s.faults 1 }
-
--- the count of faults after a write, by what that answered
+-- the count of faults after a call, by what that answered
 abbrev pub faults_after : {E : Type 0} → ℕ → Result ℕ E → ℕ
 faults_after faults (Ok n) = faults
 faults_after faults (Err e) = counted faults 1
+
+-- a write and a flush appended the n bytes of a piece that they took at Ok(n), and at Err a front of it, since the flush may have failed
+abbrev pub PassesOn : {E : Type 0} → Option (List ℕ) → Option (List ℕ) → Result ℕ E → List ℕ → Type 0
+PassesOn old new (Ok n) piece = Appends old new (take n piece)
+PassesOn old new (Err e) piece = AppendsFront old new piece

@@ -2,7 +2,7 @@ ghost use Rattle.std.specs.Prelude.{◌≡◌, ◌≤◌, None, OnErr};
 ghost use Rattle.std.specs.Result.{result_unwrap_or};
 ghost use Rattle.std.specs.Io.{ReadsAtMost, WritesAtMost};
 ghost use Rattle.std.specs.Io.KnownBytes.{ReadConsumes, WriteAppends};
-ghost use Rattle.dt_base.specs.Adapters.{no_counts, counts_after, faults_after};
+ghost use Rattle.dt_base.specs.Adapters.{faults_after, PassesOn};
 ghost use Rattle.dt_base.specs.Counter.{counted, Rose};
 ghost use Rattle.dt_base.specs.Transfer.{KeepsRest, TakesSome};
 
@@ -20,17 +20,17 @@ pub struct StdSource<R> {
 }
 
 impl<R> Model for StdSource<R> {
-    ghost use Rattle.dt_base.specs.Adapters.{SourceCounts};
+    ghost use Rattle.dt_base.specs.Adapters.{OverReader};
 
-    ghost Value = { SourceCounts };
+    ghost Value = { OverReader R };
 
-    ghost view = { λ s. record { faults = s.faults; taken = s.taken } };
+    ghost view = { λ s. record { reader = s.reader; faults = s.faults; taken = s.taken } };
 }
 
 impl<R: Read + Drop> StdSource<R> {
     /// A source of what the reader gives.
     pub fn new(reader: R) -> StdSource<R>
-        ensures { result ≡ no_counts }
+        ensures { result ≡ record { reader = reader; faults = 0; taken = 0 } }
     {
         StdSource {
             reader,
@@ -48,7 +48,8 @@ impl<R: Read + Drop> Source for StdSource<R> {
     ghost taken = { λ s. s.taken };
 
     fn read(&mut self, out: &mut [u8]) -> Result<usize, Failed>
-        ensures after { self.new ≡ counts_after self.old result }
+        ensures reader { ReadConsumes (R.remaining self.old.reader) (R.remaining self.new.reader) result out.new }
+        ensures fault { self.new.faults ≡ faults_after self.old.faults result }
 
         // What each source does.
         ensures bound { ReadsAtMost result out.new }
@@ -80,17 +81,17 @@ pub struct StdSink<W> {
 }
 
 impl<W> Model for StdSink<W> {
-    ghost use Rattle.std.specs.Prelude.{ℕ};
+    ghost use Rattle.dt_base.specs.Adapters.{OverWriter};
 
-    ghost Value = { ℕ };
+    ghost Value = { OverWriter W };
 
-    ghost view = { λ s. s.faults };
+    ghost view = { λ s. record { writer = s.writer; faults = s.faults } };
 }
 
 impl<W: Write + Drop> StdSink<W> {
     /// A sink that passes on what it is given to the writer. Contracts see its count of faults.
     pub fn new(writer: W) -> StdSink<W>
-        ensures { result ≡ 0 }
+        ensures { result ≡ record { writer = writer; faults = 0 } }
     {
         StdSink { writer, faults: 0 }
     }
@@ -99,17 +100,18 @@ impl<W: Write + Drop> StdSink<W> {
 impl<W: Write + Drop> Sink for StdSink<W> {
     ghost held = { λ _. None };
 
-    ghost faults = { λ faults. faults };
+    ghost faults = { λ s. s.faults };
 
     fn write(&mut self, piece: &[u8]) -> Result<usize, Failed>
-        ensures after { self.new ≡ faults_after self.old result }
+        ensures writer { PassesOn (W.contents self.old.writer) (W.contents self.new.writer) result piece.now }
+        ensures fault { self.new.faults ≡ faults_after self.old.faults result }
 
         // What each sink does.
         ensures bound { WritesAtMost result piece.now }
         ensures some { TakesSome result piece.now }
         ensures bytes { WriteAppends None None result piece.now }
-        ensures faults { self.old ≤ self.new }
-        ensures failed { OnErr result (Rose self.old self.new) }
+        ensures faults { self.old.faults ≤ self.new.faults }
+        ensures failed { OnErr result (Rose self.old.faults self.new.faults) }
     {
         let passed = pass_on(&mut self.writer, piece);
         if passed.is_err() {
@@ -123,6 +125,7 @@ impl<W: Write + Drop> Sink for StdSink<W> {
 fn pass_on<W: Write>(writer: &mut W, piece: &[u8]) -> Result<usize, Failed>
     ensures bound { WritesAtMost result piece.now }
     ensures some { TakesSome result piece.now }
+    ensures bytes { PassesOn (W.contents writer.old) (W.contents writer.new) result piece.now }
 {
     let Ok(count) = writer.write(piece) else {
         return Err(Failed);
