@@ -1,9 +1,14 @@
-use Rattle.std.specs.Prelude.{ℕ, ◌+ℤ◌, ◌*ℤ◌, ℤ, pos, List, map}
+use Rattle.std.specs.Prelude.{ℕ, ◌+ℤ◌, ◌*ℤ◌, ℤ, pos, List, [], ◌∷◌, map, None}
 use Rattle.std.specs.List.{flat_map}
+use Rattle.dt_kinds.specs.declared.kind.Kind.{Kind}
 use Rattle.dt_map.specs.Numbers.{below}
 use Rattle.dt_map.specs.Typemap.{Marked}
 use Rattle.dt_map.specs.Bounds.{extent_of}
 use Rattle.dt_map.specs.Placing.{place}
+
+-- a basic type: its kind at 0, without marks
+abbrev pub named : Kind → Marked
+named kind = record { entries = record { kind = kind; disp = pos 0 } ∷ []; marks = None }
 
 -- copies of one typemap at offsets
 abbrev pub copies_at : List ℤ → Marked → Marked

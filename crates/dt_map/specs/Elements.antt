@@ -5,10 +5,14 @@ use Rattle.dt_map.specs.Numbers.{below}
 use Rattle.dt_map.specs.Typemap.{Marked, shift}
 use Rattle.dt_map.specs.Bounds.{extent_of, end_of}
 
--- the elements of an operation on count copies from the origin on (MPI 4.1, sections 3.2.2 and 5.1): copy i is i extents further
--- on. An element is an entry whose displacement is its place in the buffer
+-- copies of entries from the origin on, copy i further on by i extents
+abbrev pub copies : List Entry → ℤ → ℕ → ℤ → List Entry
+copies entries extent count origin = flat_map (λ i. shift (origin +ℤ (pos i *ℤ extent)) entries) (below count)
+
+-- the elements of an operation on count copies of a type (MPI 4.1, sections 3.2.2 and 5.1). An element is an entry whose
+-- displacement is its place in the buffer
 abbrev pub elements : Marked → ℕ → ℤ → List Entry
-elements m count origin = flat_map (λ i. shift (origin +ℤ (pos i *ℤ extent_of m)) m.entries) (below count)
+elements m count origin = copies m.entries (extent_of m) count origin
 
 -- whether each byte of an element lies in a buffer of so many bytes
 abbrev pub lies_inside : ℕ → Entry → Bool

@@ -2,7 +2,7 @@ use crate::name::Name;
 use dt_kinds::Rep;
 
 /// One line of a script that is neither blank nor a comment. The fields hold the words of the line in their order.
-#[derive(Debug, Drop)]
+#[derive(Drop)]
 pub enum Command {
     /// `type NAME = CTOR`
     Define {
@@ -25,7 +25,7 @@ pub enum Command {
 }
 
 /// What makes a type.
-#[derive(Debug, Drop)]
+#[derive(Drop)]
 pub enum Ctor {
     /// `hvector COUNT BLOCK STRIDE TYPE`, the stride in bytes (MPI 4.1, section 5.1.2)
     Hvector {
@@ -37,7 +37,7 @@ pub enum Ctor {
 }
 
 /// What a new buffer holds.
-#[derive(Debug, Drop)]
+#[derive(Drop)]
 pub enum Fill {
     /// `count LENGTH`: byte i is `i mod 256`
     Count(i32),

@@ -7,7 +7,7 @@ use arrayvec::ArrayVec;
 use std::marker::Model;
 
 /// A name of a script: a letter first, letters, digits and `_`, 1 to 32 of them.
-#[derive(Debug, Clone, PartialEq, Eq, PartialOrd, Ord, Drop)]
+#[derive(Clone, PartialEq, Eq, PartialOrd, Ord, Drop)]
 pub struct Name {
     bytes: ArrayVec<u8, 32>,
 }

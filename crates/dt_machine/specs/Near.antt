@@ -1,0 +1,5 @@
+use Rattle.std.specs.Prelude.{ℤ, pos, negsuc, ◌≤ℤ◌}
+
+-- far from what overflows an i128: at most 2^100 in absolute value
+abbrev pub IsNear : ℤ → Type 0
+IsNear x = (negsuc 1267650600228229401496703205375 ≤ℤ x) × (x ≤ℤ pos 1267650600228229401496703205376)
