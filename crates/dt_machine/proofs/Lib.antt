@@ -1,1 +1,2 @@
 pub mod PackingLemmas
+pub mod VectorLemmas

@@ -5,3 +5,4 @@ pub mod Refusal
 pub mod Reply
 pub mod State
 pub mod Step
+pub mod Vector

@@ -14,10 +14,13 @@ named kind = record { entries = record { kind = kind; disp = pos 0 } ∷ []; mar
 abbrev pub copies_at : List ℤ → Marked → Marked
 copies_at offsets old = place (map (λ x. (x, old)) offsets)
 
--- MPI_Type_create_hvector (MPI 4.1, section 5.1.2): block i begins at i*stride bytes, and copy j in it j extents further on
+-- copies of a block, one extent after another
+abbrev pub block_offsets : ℤ → ℕ → ℤ → List ℤ
+block_offsets start block extent = map (λ j. start +ℤ (pos j *ℤ extent)) (below block)
+
+-- MPI_Type_create_hvector (MPI 4.1, section 5.1.2): block i begins at i*stride bytes
 abbrev pub hvector_offsets : ℕ → ℕ → ℤ → ℤ → List ℤ
-hvector_offsets count block stride extent =
-    flat_map (λ i. map (λ j. (pos i *ℤ stride) +ℤ (pos j *ℤ extent)) (below block)) (below count)
+hvector_offsets count block stride extent = flat_map (λ i. block_offsets (pos i *ℤ stride) block extent) (below count)
 
 abbrev pub hvector : ℕ → ℕ → ℤ → Marked → Marked
 hvector count block stride old = copies_at (hvector_offsets count block stride (extent_of old)) old
