@@ -1,2 +1,5 @@
 pub mod Extremes
+pub mod Leading
+pub mod Offsets
+pub mod Rounding
 pub mod Summaries

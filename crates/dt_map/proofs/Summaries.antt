@@ -18,7 +18,7 @@ use Rattle.dt_map.specs.Laws.{BoundsFromSummary, SummaryOfNone, SummaryOfShifted
 use Rattle.dt_map.proofs.Extremes.{alignment-pos, alignment-append}
 
 -- pairs of bounds
-both : (low_a low_b high_a high_b : ℤ) → low_a ≡ low_b → high_a ≡ high_b → Some (let m : Marks = record { lb = low_a; ub = high_a } in m) ≡ Some (record { lb = low_b; ub = high_b })
+pub both : (low_a low_b high_a high_b : ℤ) → low_a ≡ low_b → high_a ≡ high_b → Some (let m : Marks = record { lb = low_a; ub = high_a } in m) ≡ Some (record { lb = low_b; ub = high_b })
 both low_a low_b high_a high_b e f = cc
 
 pub joined_marks_assoc : (a b c : Option Marks) → joined_marks (joined_marks a b) c ≡ joined_marks a (joined_marks b c)
