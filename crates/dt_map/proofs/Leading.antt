@@ -1,7 +1,7 @@
 -- `done` is the greatest number of leading elements that fit
-use Rattle.std.proofs.Common.{◌≡◌, ℕ, zero, suc, ◌+◌, ◌-◌, ◌≤◌, ◌<◌, Bool, true, false, cond, List, [], ◌∷◌, take, length, nat_le, refl, sym, ap, ◌∙◌, subst, arith, lit≤}
+use Rattle.std.proofs.Common.{◌≡◌, ℕ, zero, suc, ◌+◌, ◌-◌, ◌≤◌, ◌<◌, Bool, true, false, cond, List, [], ◌∷◌, take, length, nat_le, refl, sym, ap, ◌∙◌, subst, arith, inl, inr}
 use Rattle.std.proofs.lemmas.List.Sums.{sum_by-cons}
-use Rattle.std.proofs.lemmas.Bool.{leb_tells}
+use Rattle.std.proofs.lemmas.Bool.Decides.{leb_tells}
 use Rattle.dt_kinds.specs.declared.kind.Rep.{Rep}
 use Rattle.dt_kinds.specs.Kind.{packed_size}
 use Rattle.dt_map.specs.declared.typemap.Entry.{Entry}
@@ -31,3 +31,12 @@ none_fits rep e es n large = (omega arith, omega arith, no_more)
     no_more : (k : ℕ) → k ≤ length (e ∷ es) → total rep (take k (e ∷ es)) ≤ n → k ≤ 0
     no_more zero within small = omega arith
     no_more (suc k) within small = absurd (omega (arith, small, large, total-cons rep e (take k es)))
+
+pub done_is_greatest : DoneIsGreatest
+done_is_greatest rep [] n = (omega arith, omega arith, λ k within small. within)
+done_is_greatest rep (e ∷ es) n =
+    let size = packed_size rep e.kind in
+    let result : Bool → Type 0 = λ b. IsGreatest rep (e ∷ es) n (cond b (suc (done rep es (n - size))) 0) in
+    elim (leb_tells size n) [
+      inl h ↦ subst result (sym h.0) (one_more rep e es n (done rep es (n - size)) h.1 (done_is_greatest rep es (n - size)))
+    | inr h ↦ subst result (sym h.0) (none_fits rep e es n h.1) ]
