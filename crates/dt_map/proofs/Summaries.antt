@@ -40,7 +40,7 @@ pub shift_marks-shift_marks : (x y : ℤ) (a : Option Marks) → shift_marks x (
 shift_marks-shift_marks x y None = refl
 shift_marks-shift_marks x y (Some a) = both _ _ _ _ (omega (arith, ints)) (omega (arith, ints))
 
-stretched_more : (x : ℤ) (reach bounds : Option Marks) →
+pub stretched_more : (x : ℤ) (reach bounds : Option Marks) →
     joined_marks (shift_marks x bounds) (stretched reach bounds) ≡ stretched (joined_marks (Some (record { lb = x; ub = x })) reach) bounds
 stretched_more x None None = refl
 stretched_more x (Some r) None = refl

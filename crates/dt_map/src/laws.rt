@@ -1,5 +1,5 @@
 //! Laws of bounds, placing and setting, stated over their definitions. The functions do nothing.
-ghost use Rattle.dt_map.specs.Laws.{PaddingIsLeast, NaturalIsLeast, BoundsFromSummary, SummaryOfNone, SummaryOfShifted, SummaryOfJoined, SummaryOfCopies, ReachOfEven, PlacingOfPlacing, DoneIsGreatest};
+ghost use Rattle.dt_map.specs.Laws.{PaddingIsLeast, NaturalIsLeast, BoundsFromSummary, SummaryOfNone, SummaryOfShifted, SummaryOfJoined, SummaryOfCopies, ReachOfEven, ReachOfSums, InRows, PlacingOfPlacing, ElementsArePlaced, ElementsOfMore, TotalOfElements, DoneIsGreatest};
 
 /// The padding makes a number a multiple of another, and no lesser one does.
 pub fn padding_is_least()
@@ -51,9 +51,39 @@ pub fn reach_of_even()
 {
 }
 
+/// The reach of sums of offsets is the sum of their reaches.
+pub fn reach_of_sums()
+    ensures { ReachOfSums }
+{
+}
+
+/// Whole rows and a part of a last one, counted through by one number.
+pub fn in_rows()
+    ensures { InRows }
+{
+}
+
 /// Placing what was placed is placing once, at the sums of the offsets.
 pub fn placing_of_placing()
     ensures { PlacingOfPlacing }
+{
+}
+
+/// The elements of an operation are what copies at multiples of the extent place, from the origin on.
+pub fn elements_are_placed()
+    ensures { ElementsArePlaced }
+{
+}
+
+/// The elements of one copy more.
+pub fn elements_of_more()
+    ensures { ElementsOfMore }
+{
+}
+
+/// The packed bytes of an operation on so many copies are so many times those of one.
+pub fn total_of_elements()
+    ensures { TotalOfElements }
 {
 }
 
