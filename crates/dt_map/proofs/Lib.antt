@@ -1,3 +1,4 @@
+pub mod Copies
 pub mod Extremes
 pub mod Leading
 pub mod Offsets
