@@ -1,5 +1,5 @@
 -- `done` is the greatest number of leading elements that fit
-use Rattle.std.proofs.Common.{◌≡◌, ℕ, zero, suc, ◌+◌, ◌-◌, ◌≤◌, ◌<◌, Bool, true, false, cond, List, [], ◌∷◌, take, length, nat_le, refl, sym, ap, ◌∙◌, subst, arith, inl, inr}
+use Rattle.std.proofs.Common.{◌≡◌, ℕ, zero, suc, ◌+◌, ◌-◌, ◌≤◌, ◌<◌, Bool, cond, List, [], ◌∷◌, take, length, sym, subst, arith, inl, inr}
 use Rattle.std.proofs.lemmas.List.Sums.{sum_by-cons}
 use Rattle.std.proofs.lemmas.Bool.Decides.{leb_tells}
 use Rattle.dt_kinds.specs.declared.kind.Rep.{Rep}
@@ -16,10 +16,11 @@ total-cons : (rep : Rep) (e : Entry) (es : List Entry) → total rep (e ∷ es) 
 total-cons rep e es = sum_by-cons (λ (e : Entry). packed_size rep e.kind) e es
 
 one_more : (rep : Rep) (e : Entry) (es : List Entry) (n d : ℕ) → packed_size rep e.kind ≤ n → IsGreatest rep es (n - packed_size rep e.kind) d → IsGreatest rep (e ∷ es) n (suc d)
-one_more rep e es n d fits h =
-    ( omega (arith, h.0),
-      omega (arith, h.1, total-cons rep e (take d es)),
-      no_more )
+one_more rep e es n d fits h = (
+  omega (arith, h.0),
+  omega (arith, h.1, total-cons rep e (take d es)),
+  no_more,
+)
   where
     no_more : (k : ℕ) → k ≤ length (e ∷ es) → total rep (take k (e ∷ es)) ≤ n → k ≤ suc d
     no_more zero within small = omega arith
@@ -38,5 +39,6 @@ done_is_greatest rep (e ∷ es) n =
     let size = packed_size rep e.kind in
     let result : Bool → Type 0 = λ b. IsGreatest rep (e ∷ es) n (cond b (suc (done rep es (n - size))) 0) in
     elim (leb_tells size n) [
-      inl h ↦ subst result (sym h.0) (one_more rep e es n (done rep es (n - size)) h.1 (done_is_greatest rep es (n - size)))
-    | inr h ↦ subst result (sym h.0) (none_fits rep e es n h.1) ]
+      | inl h ↦ subst result (sym h.0) (one_more rep e es n (done rep es (n - size)) h.1 (done_is_greatest rep es (n - size)))
+      | inr h ↦ subst result (sym h.0) (none_fits rep e es n h.1)
+    ]

@@ -1,5 +1,5 @@
 -- lists of offsets, and placing what was placed
-use Rattle.std.proofs.Common.{◌≡◌, ℕ, zero, suc, ◌+◌, ◌*◌, ◌/◌, ◌%◌, ◌≤◌, ◌<◌, ℤ, pos, negsuc, ◌+ℤ◌, ◌-ℤ◌, ◌*ℤ◌, Option, Some, None, List, [], ◌∷◌, ◌++◌, map, length, refl, sym, ap, ◌∙◌, arith, append_assoc, append-nil}
+use Rattle.std.proofs.Common.{◌≡◌, ℕ, zero, suc, ◌+◌, ◌*◌, ◌/◌, ◌%◌, ◌≤◌, ◌<◌, ℤ, pos, negsuc, ◌+ℤ◌, ◌*ℤ◌, Option, Some, List, [], ◌∷◌, ◌++◌, map, refl, sym, ap, ◌∙◌, arith, append_assoc, append-nil}
 use Rattle.std.proofs.lemmas.Int.{ints, clamps}
 use Rattle.std.proofs.lemmas.List.{map-append}
 use Rattle.std.proofs.lemmas.Nat.{div-mul-add, mod-mul-add}
@@ -11,7 +11,7 @@ use Rattle.dt_map.specs.declared.typemap.Marks.{Marks}
 use Rattle.dt_map.specs.Numbers.{below}
 use Rattle.dt_map.specs.Typemap.{Marked, shift, shift_entry, shift_marks}
 use Rattle.dt_map.specs.Placing.{joined_marks, placed_marks, place}
-use Rattle.dt_map.specs.Summary.{reach_of, stretched}
+use Rattle.dt_map.specs.Summary.{reach_of}
 use Rattle.dt_map.specs.Laws.{ReachOfEven, ReachOfSums, sums, InRows, PlacingOfPlacing, further}
 use Rattle.dt_map.proofs.Summaries.{both, stretched_more, joined_marks_assoc, shift_marks-joined, shift_marks-shift_marks, placed_marks-append}
 
@@ -87,7 +87,7 @@ step_more first (negsuc s) n = omega (arith, ints)
 
 even_more : (first step : ℤ) (n : ℕ) →
     joined_marks (Some (record { lb = int_min first (first +ℤ (pos n *ℤ step)); ub = int_max first (first +ℤ (pos n *ℤ step)) }))
-        (Some (record { lb = first +ℤ (pos (suc n) *ℤ step); ub = first +ℤ (pos (suc n) *ℤ step) }))
+    (Some (record { lb = first +ℤ (pos (suc n) *ℤ step); ub = first +ℤ (pos (suc n) *ℤ step) }))
     ≡ Some (record { lb = int_min first (first +ℤ (pos (suc n) *ℤ step)); ub = int_max first (first +ℤ (pos (suc n) *ℤ step)) })
 even_more first (pos s) n = both _ _ _ _ (omega (arith, ints, clamps)) (omega (arith, ints, clamps))
 even_more first (negsuc s) n = both _ _ _ _ (omega (arith, ints, clamps)) (omega (arith, ints, clamps))

@@ -1,10 +1,10 @@
 -- the natural upper bound is the least that makes the extent a multiple of the alignment
-use Rattle.std.proofs.Common.{◌≡◌, ℕ, zero, suc, ◌+◌, ◌-◌, ◌*◌, ◌/◌, ◌%◌, ◌≤◌, ◌<◌, ℤ, pos, negsuc, ◌+ℤ◌, ◌-ℤ◌, ◌≤ℤ◌, nat_abs, ◌⊎◌, inl, inr, refl, sym, ap, ◌∙◌, arith}
+use Rattle.std.proofs.Common.{◌≡◌, ℕ, zero, suc, ◌+◌, ◌-◌, ◌*◌, ◌/◌, ◌%◌, ◌≤◌, ◌<◌, ℤ, pos, ◌+ℤ◌, ◌-ℤ◌, ◌≤ℤ◌, nat_abs, ◌⊎◌, inl, inr, sym, ap, ◌∙◌, arith}
 use Rattle.std.proofs.lemmas.Int.{ints}
 use Rattle.std.proofs.lemmas.Bool.{cases_lt}
 use Rattle.std.proofs.Math.Nat.{mod_self, mod-eq_of_lt, mod-lt, mod-add-div, add-mul-mod_self_left}
 use Rattle.dt_map.specs.Numbers.{padding}
-use Rattle.dt_map.specs.Bounds.{alignment, true_lb, true_ub, natural_ub}
+use Rattle.dt_map.specs.Bounds.{alignment, true_lb, true_ub}
 use Rattle.dt_map.specs.Laws.{PaddingIsLeast, NaturalIsLeast}
 use Rattle.dt_map.proofs.Extremes.{alignment-pos, true_bounds_ordered}
 
@@ -27,9 +27,10 @@ by_rest a zero below =
     (ap (λ p. (0 + p) % a) none ∙ mod-eq_of_lt below, λ e h. omega (arith, none))
 by_rest a (suc r) below =
     let small : (a - suc r) % a ≡ a - suc r = mod-eq_of_lt (omega arith) in
-    let whole : suc r + (a - suc r) ≡ a = omega arith in
-    ( ap (λ p. (suc r + p) % a) small ∙ (ap (λ x. x % a) whole ∙ mod_self a),
-      λ e h. let least : a ≤ suc r + e = no_less_than a (suc r + e) (omega arith) h in omega (arith, small, least) )
+    let whole : suc r + (a - suc r) ≡ a = omega arith in (
+      ap (λ p. (suc r + p) % a) small ∙ (ap (λ x. x % a) whole ∙ mod_self a),
+      λ e h. let least : a ≤ suc r + e = no_less_than a (suc r + e) (omega arith) h in omega (arith, small, least),
+    )
 
 pub padding_is_least : PaddingIsLeast
 padding_is_least n a positive =
@@ -49,12 +50,13 @@ natural_is_least es =
     let a = alignment es in
     let ordered = true_bounds_ordered es in
     let p = padding (nat_abs (high -ℤ low)) a in
-    let least = padding_is_least (nat_abs (high -ℤ low)) a (alignment-pos es) in
-    ( omega (arith, ints),
+    let least = padding_is_least (nat_abs (high -ℤ low)) a (alignment-pos es) in (
+      omega (arith, ints),
       ap (λ n. n % a) (further_apart low high p ordered) ∙ least.0,
       λ u above h.
-        let e = nat_abs (u -ℤ high) in
-        let same = between high u above in
-        let far = ap (λ z. nat_abs (z -ℤ low)) same ∙ further_apart low high e ordered in
-        let no_less = least.1 e (sym (ap (λ n. n % a) far) ∙ h) in
-        omega (arith, ints, same, no_less) )
+          let e = nat_abs (u -ℤ high) in
+          let same = between high u above in
+          let far = ap (λ z. nat_abs (z -ℤ low)) same ∙ further_apart low high e ordered in
+          let no_less = least.1 e (sym (ap (λ n. n % a) far) ∙ h) in
+          omega (arith, ints, same, no_less),
+    )

@@ -1,19 +1,18 @@
 -- how summaries shift, join and copy
-use Rattle.std.proofs.Common.{◌≡◌, ℕ, zero, suc, ◌+◌, ◌*◌, ◌≤◌, ◌<◌, max, ℤ, pos, ◌+ℤ◌, ◌-ℤ◌, Option, Some, None, List, [], ◌∷◌, ◌++◌, map, length, refl, sym, ap, ◌∙◌, arith, length-append, append_assoc, append-nil, unwrap_or, option_map}
+use Rattle.std.proofs.Common.{◌≡◌, ℕ, zero, suc, ◌<◌, max, ℤ, pos, ◌+ℤ◌, Option, Some, None, List, [], ◌∷◌, ◌++◌, map, length, refl, sym, ap, ◌∙◌, arith, length-append, append-nil, unwrap_or, option_map}
 use Rattle.std.proofs.lemmas.Int.{ints, clamps}
 use Rattle.std.proofs.lemmas.List.Sums.{sum_by-append, sum_by-cons}
 use Rattle.std.proofs.lemmas.Grind.{flat_map-append}
-use Rattle.std.specs.Int.{int_min, int_max}
-use Rattle.std.specs.List.{flat_map, sum_by}
+use Rattle.std.specs.List.{flat_map}
 use Rattle.dt_kinds.specs.Kind.{native_size, external_size}
 use Rattle.dt_map.specs.declared.typemap.Entry.{Entry}
 use Rattle.dt_map.specs.declared.typemap.Marks.{Marks}
 use Rattle.dt_map.specs.Typemap.{Marked, shift, shift_entry, shift_marks}
-use Rattle.dt_map.specs.Bounds.{end_of, size_of, external_size_of, alignment, true_lb, true_ub, bounds_of, lower_from, upper_from, natural_end}
+use Rattle.dt_map.specs.Bounds.{end_of, size_of, external_size_of, alignment, true_lb, true_ub, lower_from, upper_from, natural_end}
 use Rattle.dt_map.specs.Numbers.{lesser, greater, least, greatest}
-use Rattle.dt_map.specs.Placing.{joined_marks, placed_marks, place}
+use Rattle.dt_map.specs.Placing.{joined_marks, placed_marks}
 use Rattle.dt_map.specs.Constructors.{copies_at}
-use Rattle.dt_map.specs.Summary.{Summary, summary_of, span_of, reach_of, stretched, shifted, joined, copied, copied_align, lb_or_zero, ub_or_zero, lb_from, ub_from, bounds_from}
+use Rattle.dt_map.specs.Summary.{Summary, summary_of, span_of, reach_of, stretched, shifted, joined, copied, copied_align, lb_or_zero, ub_or_zero, lb_from, ub_from}
 use Rattle.dt_map.specs.Laws.{BoundsFromSummary, SummaryOfNone, SummaryOfShifted, SummaryOfJoined, SummaryOfCopies}
 use Rattle.dt_map.proofs.Extremes.{alignment-pos, alignment-append}
 
