@@ -4,3 +4,4 @@ pub mod Leading
 pub mod Offsets
 pub mod Rounding
 pub mod Summaries
+pub mod Writing

@@ -1,16 +1,20 @@
-use Rattle.std.specs.Prelude.{◌≡◌, ℕ, suc, ◌+◌, ◌*◌, ◌/◌, ◌%◌, ◌≤◌, ◌<◌, ◌+ℤ◌, ◌-ℤ◌, ◌*ℤ◌, ◌≤ℤ◌, ℤ, pos, nat_abs, Some, List, [], ◌∷◌, ◌++◌, map, length, take}
+use Rattle.std.specs.Prelude.{◌≡◌, ℕ, suc, ◌+◌, ◌-◌, ◌*◌, ◌/◌, ◌%◌, ◌≤◌, ◌<◌, ◌+ℤ◌, ◌-ℤ◌, ◌*ℤ◌, ◌≤ℤ◌, ℤ, pos, negsuc, nat_abs, IsTrue, slice_index, slice_index_or, Some, List, [], ◌∷◌, ◌++◌, map, length, take, drop}
 use Rattle.std.specs.Int.{int_min, int_max}
-use Rattle.std.specs.List.{flat_map}
+use Rattle.std.specs.List.{flat_map, All}
 use Rattle.dt_kinds.specs.declared.kind.Rep.{Rep}
+use Rattle.dt_kinds.specs.Displacement.{FitsDisp}
+use Rattle.dt_kinds.specs.Kind.{packed_size}
+use Rattle.dt_kinds.specs.Image.{restore}
 use Rattle.dt_map.specs.declared.typemap.Entry.{Entry}
 use Rattle.dt_map.specs.Numbers.{below, padding}
 use Rattle.dt_map.specs.Typemap.{Marked, shift}
-use Rattle.dt_map.specs.Bounds.{bounds_of, alignment, true_lb, true_ub, natural_ub, extent_of}
+use Rattle.dt_map.specs.Bounds.{bounds_of, alignment, true_lb, true_ub, natural_ub, extent_of, lower, upper}
 use Rattle.dt_map.specs.Placing.{place}
 use Rattle.dt_map.specs.Constructors.{copies_at}
-use Rattle.dt_map.specs.Elements.{elements}
+use Rattle.dt_map.specs.Elements.{elements, are_inside, IsByteOf, Overlaps}
+use Rattle.dt_map.specs.Limits.{Fits}
 use Rattle.dt_map.specs.Packed.{total}
-use Rattle.dt_map.specs.Setting.{done}
+use Rattle.dt_map.specs.Setting.{done, set_each}
 use Rattle.dt_map.specs.Summary.{summary_of, no_summary, shifted, joined, copied, reach_of, stretched, bounds_from}
 
 -- the padding makes a number a multiple, and no lesser one does
@@ -91,3 +95,27 @@ DoneIsGreatest =
     (rep : Rep) (es : List Entry) (n : ℕ) → (done rep es n ≤ length es)
     × (total rep (take (done rep es n) es) ≤ n)
     × ((k : ℕ) → k ≤ length es → total rep (take k es) ≤ n → k ≤ done rep es n)
+
+-- the image of element i, where images stand one after another
+abbrev pub image_at : Rep → List Entry → ℕ → Entry → List ℕ → List ℕ
+image_at rep es i e images = take (packed_size rep e.kind) (drop (total rep (take i es)) images)
+
+-- setting elements keeps the buffer's length and each byte that is no element's
+abbrev pub SettingKeepsTheRest : Type 0
+SettingKeepsTheRest =
+    (rep : Rep) (es : List Entry) (buffer images : List ℕ) → IsTrue (are_inside (length buffer) es) → total rep es ≤ length images
+    → (length (set_each rep es buffer images) ≡ length buffer)
+    × ((x : ℕ) → All (λ e. ¬ IsByteOf (pos x) e) es → slice_index (set_each rep es buffer images) x ≡ slice_index buffer x)
+
+-- setting elements that don't overlap gives each byte of one of them what its image stands for
+abbrev pub SettingSetsEach : Type 0
+SettingSetsEach =
+    (rep : Rep) (es : List Entry) (buffer images : List ℕ) → IsTrue (are_inside (length buffer) es) → total rep es ≤ length images → ¬ Overlaps es
+    → (i x : ℕ) (d : Entry) → i < length es → let e = slice_index_or es i d in
+      IsByteOf (pos x) e → slice_index (set_each rep es buffer images) x ≡ slice_index (restore rep e.kind (image_at rep es i e images)) (x - nat_abs e.disp)
+
+-- the bounds of a typemap in range are in range, but that the natural upper bound may pass the limit by at most 7
+abbrev pub BoundsAreInRange : Type 0
+BoundsAreInRange =
+    (m : Marked) → Fits m → FitsDisp (true_lb m.entries) × FitsDisp (true_ub m.entries) × FitsDisp (lower m)
+    × (negsuc 1152921504606846975 ≤ℤ upper m) × (upper m ≤ℤ pos 1152921504606846983)
