@@ -1,12 +1,17 @@
 -- the natural upper bound is the least that makes the extent a multiple of the alignment
-use Rattle.std.proofs.Common.{◌≡◌, ℕ, zero, suc, ◌+◌, ◌-◌, ◌*◌, ◌/◌, ◌%◌, ◌≤◌, ◌<◌, ℤ, pos, ◌+ℤ◌, ◌-ℤ◌, ◌≤ℤ◌, nat_abs, ◌⊎◌, inl, inr, sym, ap, ◌∙◌, arith}
+use Rattle.std.proofs.Common.{◌≡◌, ℕ, zero, suc, ◌+◌, ◌-◌, ◌*◌, ◌/◌, ◌%◌, ◌≤◌, ◌<◌, ℤ, pos, negsuc, List, Option, Some, None, ◌+ℤ◌, ◌-ℤ◌, ◌≤ℤ◌, nat_abs, ◌⊎◌, inl, inr, sym, ap, ◌∙◌, arith}
 use Rattle.std.proofs.lemmas.Int.{ints}
 use Rattle.std.proofs.lemmas.Bool.{cases_lt}
 use Rattle.std.proofs.Math.Nat.{mod_self, mod-eq_of_lt, mod-lt, mod-add-div, add-mul-mod_self_left}
 use Rattle.dt_map.specs.Numbers.{padding}
-use Rattle.dt_map.specs.Bounds.{alignment, true_lb, true_ub}
-use Rattle.dt_map.specs.Laws.{PaddingIsLeast, NaturalIsLeast}
-use Rattle.dt_map.proofs.Extremes.{alignment-pos, true_bounds_ordered}
+use Rattle.dt_kinds.specs.Displacement.{FitsDisp}
+use Rattle.std.specs.List.{All}
+use Rattle.dt_map.specs.declared.typemap.Entry.{Entry}
+use Rattle.dt_map.specs.declared.typemap.Marks.{Marks}
+use Rattle.dt_map.specs.Limits.{EntryFits, MarksFit}
+use Rattle.dt_map.specs.Bounds.{alignment, true_lb, true_ub, natural_ub, lower_from, upper_from}
+use Rattle.dt_map.specs.Laws.{PaddingIsLeast, NaturalIsLeast, BoundsAreInRange}
+use Rattle.dt_map.proofs.Extremes.{alignment-pos, alignment-le, true_bounds_ordered, true_lb-fits, true_ub-fits}
 
 -- the rest of a sum is that of the rest of one part
 rest_of_sum : (n e a : ℕ) → (n + e) % a ≡ (n % a + e) % a
@@ -60,3 +65,23 @@ natural_is_least es =
           let no_less = least.1 e (sym (ap (λ n. n % a) far) ∙ h) in
           omega (arith, ints, same, no_less),
     )
+
+-- the bounds of a typemap in range
+padding-le : (n a : ℕ) → 0 < a → a ≤ 8 → padding n a ≤ 7
+padding-le n a positive few = let h = mod-lt (a - n % a) positive in omega arith
+
+natural_ub_in_range : (es : List Entry) → All EntryFits es → (negsuc 1152921504606846975 ≤ℤ natural_ub es) × (natural_ub es ≤ℤ pos 1152921504606846983)
+natural_ub_in_range es all =
+    let high = true_ub-fits es all in
+    let more = padding-le (nat_abs (true_ub es -ℤ true_lb es)) (alignment es) (alignment-pos es) (alignment-le es) in
+    (omega (arith, ints, high.0, high.1, more), omega (arith, ints, high.0, high.1, more))
+
+ends_in_range : (es : List Entry) (marks : Option Marks) → All EntryFits es → MarksFit marks →
+    FitsDisp (lower_from marks es) × (negsuc 1152921504606846975 ≤ℤ upper_from marks es) × (upper_from marks es ≤ℤ pos 1152921504606846983)
+ends_in_range es None all fit = let up = natural_ub_in_range es all in (true_lb-fits es all, up.0, up.1)
+ends_in_range es (Some marks) all fit = let high = fit.1 in (fit.0, high.0, omega (arith, ints, high.1))
+
+pub bounds_are_in_range : BoundsAreInRange
+bounds_are_in_range m fits =
+    let ends = ends_in_range m.entries m.marks fits.0 fits.1 in
+    (true_lb-fits m.entries fits.0, true_ub-fits m.entries fits.0, ends.0, ends.1, ends.2)

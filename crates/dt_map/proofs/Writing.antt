@@ -1,11 +1,11 @@
 -- setting elements: which bytes change, and to what
-use Rattle.std.proofs.Common.{◌≡◌, ℕ, zero, suc, ◌+◌, ◌-◌, ◌≤◌, ◌<◌, ◌⊎◌, inl, inr, Bool, true, false, ◌&&◌, ℤ, pos, negsuc, ◌+ℤ◌, ◌≤ℤ◌, ◌<ℤ◌, int_le, nat_abs, List, [], ◌∷◌, ◌++◌, take, drop, length, get_or, reverse, replicate, slice_index_or, refl, sym, ap, ◌∙◌, arith, length-append, length-drop, IsTrue}
+use Rattle.std.proofs.Common.{◌≡◌, ℕ, zero, suc, ◌+◌, ◌-◌, ◌≤◌, ◌<◌, ◌⊎◌, inl, inr, Bool, true, false, ◌&&◌, ℤ, pos, negsuc, ◌+ℤ◌, ◌≤ℤ◌, ◌<ℤ◌, int_le, nat_abs, List, [], ◌∷◌, ◌++◌, take, drop, length, get_or, reverse, replicate, slice_index_or, refl, sym, ap, subst, ◌∙◌, arith, length-append, length-drop, IsTrue}
 use Rattle.std.proofs.lemmas.Bool.{cases_lt}
 use Rattle.std.proofs.lemmas.Int.{ints}
-use Rattle.std.proofs.lemmas.List.{length-take-le, length-reverse, length-replicate, get_or_append_left, get_or-append_right, get_or-take, get_or-drop}
+use Rattle.std.proofs.lemmas.List.{length-take-le, drop-drop, length-reverse, length-replicate, get_or_append_left, get_or-append_right, get_or-take, get_or-drop}
 use Rattle.std.proofs.lemmas.List.Elements.{All-head, All-tail}
 use Rattle.std.proofs.lemmas.List.Sums.{sum_by-cons}
-use Rattle.std.specs.List.{All}
+use Rattle.std.specs.List.{All, HoldsAt}
 use Rattle.dt_kinds.specs.declared.kind.Kind.{Kind}
 use Rattle.dt_kinds.specs.declared.kind.Rep.{Rep}
 use Rattle.dt_kinds.specs.declared.kind.Rep.TheVariants.{Native, External32}
@@ -149,3 +149,36 @@ keeps_byte rep (e ∷ es) buffer images inside enough x off =
 
 pub setting_keeps_the_rest : SettingKeepsTheRest
 setting_keeps_the_rest rep es buffer images inside enough = (keeps_length rep es buffer images inside enough, keeps_byte rep es buffer images inside enough)
+
+-- the value at a place of the list doesn't hang on what would stand past its end
+same_at : (es : List Entry) (k : ℕ) (d d' : Entry) → k < length es → slice_index_or es k d ≡ slice_index_or es k d'
+same_at [] k d d' lt = absurd (omega arith)
+same_at (e ∷ es) zero d d' lt = refl
+same_at (e ∷ es) (suc k) d d' lt = same_at es k d d' (omega arith)
+
+everywhere : (x : ℤ) (es : List Entry) (k : ℕ) (d : Entry) → k < length es → IsByteOf x (slice_index_or es k d) → HoldsAt (IsByteOf x) es k
+everywhere x es k d lt on d' = subst (IsByteOf x) (same_at es k d d' lt) on
+
+-- elements that don't overlap
+head_apart : (e : Entry) (es : List Entry) (x : ℕ) → (Overlaps (e ∷ es) → ⊥) → IsByteOf (pos x) e → All (λ f. IsByteOf (pos x) f → ⊥) es
+head_apart e es x apart on k d lt shared =
+    apart (zero, suc k, pos x, omega arith, omega arith, (λ d'. on), everywhere (pos x) es k d lt shared)
+
+tail_apart : (e : Entry) (es : List Entry) → (Overlaps (e ∷ es) → ⊥) → Overlaps es → ⊥
+tail_apart e es apart h = apart (suc h.0, suc h.1, h.2, omega (arith, h.3), omega (arith, h.4), h.5, h.6)
+
+images_after : (rep : Rep) (e : Entry) (es : List Entry) (i : ℕ) (f : Entry) (images : List ℕ) → image_at rep es i f (drop (packed_size rep e.kind) images) ≡ image_at rep (e ∷ es) (suc i) f images
+images_after rep e es i f images =
+    ap (take (packed_size rep f.kind)) (drop-drop (total rep (take i es)) (packed_size rep e.kind) images ∙ ap (λ n. drop n images) (sym (total-cons rep e (take i es))))
+
+pub setting_sets_each : SettingSetsEach
+setting_sets_each rep [] buffer images inside enough apart i x d lt on = absurd (omega arith)
+setting_sets_each rep (e ∷ es) buffer images inside enough apart zero x d lt on =
+    let h = first rep e es buffer images inside enough in
+    keeps_byte rep es (set_one rep e buffer (first_image rep e images)) (drop (packed_size rep e.kind) images) h.others h.enough x (head_apart e es x apart on)
+    ∙ one_sets rep e es buffer images x h on
+setting_sets_each rep (e ∷ es) buffer images inside enough apart (suc i) x d lt on =
+    let h = first rep e es buffer images inside enough in
+    let f = slice_index_or es i d in
+    setting_sets_each rep es (set_one rep e buffer (first_image rep e images)) (drop (packed_size rep e.kind) images) h.others h.enough (tail_apart e es apart) i x d (omega arith) on
+    ∙ ap (λ packed. get_or (restore rep f.kind packed) (x - nat_abs f.disp) 0) (images_after rep e es i f images)
