@@ -1,5 +1,5 @@
 -- the laws of the kind table
-use Rattle.std.proofs.Common.{◌≡◌, ℕ, ◌≤◌, ◌<◌, ◌⊎◌, inl, inr, Bool, true, false, cond, Option, Some, None, Result, Ok, Err, List, [], ◌∷◌, ◌↔◌, refl, sym, ap, ◌∙◌, subst, lit≤, lit<, codes, arith, nat_eq, slice_index_or, length}
+use Rattle.std.proofs.Common.{◌≡◌, ℕ, ◌≤◌, ◌<◌, inl, inr, Bool, true, false, cond, Option, Some, None, Ok, Err, List, [], ◌∷◌, refl, sym, ap, ◌∙◌, lit≤, lit<, codes, nat_eq}
 use Rattle.std.proofs.lemmas.Slice.Eq.{bytes_eq-Decides}
 use Rattle.std.proofs.lemmas.Map.Views.{Contains-from_any, list_any-from_Contains}
 use Rattle.std.proofs.lemmas.Cmp.{nat_list_eq_equiv}
@@ -9,7 +9,6 @@ use Rattle.std.specs.Option.{ok_or}
 use Rattle.std.specs.Str.{bytes_eq}
 use Rattle.dt_kinds.specs.declared.kind.Kind.{Kind}
 use Rattle.dt_kinds.specs.declared.kind.Kind.TheVariants.{Byte, LongLong}
-use Rattle.dt_kinds.specs.declared.kind.KindFault.{KindFault}
 use Rattle.dt_kinds.specs.declared.kind.KindFault.TheVariants.{Unsupported, Unknown}
 use Rattle.dt_kinds.specs.Kind.{native_size, external_size, name_of}
 use Rattle.dt_kinds.specs.Name.{kind_of, kind_in_table, is_left_out, is_long_long_int, Names, left_out, kinds}

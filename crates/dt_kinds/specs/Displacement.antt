@@ -1,4 +1,4 @@
-use Rattle.std.specs.Prelude.{◌^◌, ◌-◌, ℤ, pos, negsuc, ◌≤ℤ◌}
+use Rattle.std.specs.Prelude.{ℤ, pos, negsuc, ◌≤ℤ◌}
 
 -- a displacement, a bound or a size in range: its absolute value is at most 2^60
 abbrev pub FitsDisp : ℤ → Type 0

@@ -1,5 +1,5 @@
 -- least, greatest and alignment of joined lists, and their ranges
-use Rattle.std.proofs.Common.{◌≡◌, ℕ, ◌+◌, ◌*◌, ◌≤◌, ◌<◌, ℤ, Option, Some, None, List, [], ◌∷◌, ◌++◌, map, max, refl, ap, ◌∙◌, sym, arith, take, get_or, length, unwrap_or, slice_index_or, pos, ◌≤ℤ◌, lit≤}
+use Rattle.std.proofs.Common.{◌≡◌, ℕ, ◌+◌, ◌*◌, ◌≤◌, ◌<◌, ℤ, Option, Some, None, List, [], ◌∷◌, ◌++◌, map, max, refl, ap, ◌∙◌, sym, arith, take, get_or, length, unwrap_or, slice_index_or, pos, ◌≤ℤ◌}
 use Rattle.std.proofs.lemmas.Int.{ints, clamps}
 use Rattle.std.proofs.lemmas.List.{map_more, take_more, take_all}
 use Rattle.std.proofs.lemmas.List.Elements.{All-head, All-tail}

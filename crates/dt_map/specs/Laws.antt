@@ -1,16 +1,21 @@
-use Rattle.std.specs.Prelude.{◌≡◌, ℕ, zero, suc, ◌+◌, ◌%◌, ◌≤◌, ◌<◌, ◌+ℤ◌, ◌-ℤ◌, ◌*ℤ◌, ◌≤ℤ◌, ℤ, pos, nat_abs, Some, List, [], ◌∷◌, ◌++◌, map, length, take}
+use Rattle.std.specs.Prelude.{◌≡◌, ℕ, suc, ◌+◌, ◌-◌, ◌*◌, ◌/◌, ◌%◌, ◌≤◌, ◌<◌, ◌+ℤ◌, ◌-ℤ◌, ◌*ℤ◌, ◌≤ℤ◌, ℤ, pos, negsuc, nat_abs, IsTrue, slice_index, slice_index_or, Some, List, [], ◌∷◌, ◌++◌, map, length, take, drop}
 use Rattle.std.specs.Int.{int_min, int_max}
-use Rattle.std.specs.List.{flat_map}
+use Rattle.std.specs.List.{flat_map, All}
 use Rattle.dt_kinds.specs.declared.kind.Rep.{Rep}
+use Rattle.dt_kinds.specs.Displacement.{FitsDisp}
+use Rattle.dt_kinds.specs.Kind.{packed_size}
+use Rattle.dt_kinds.specs.Image.{restore}
 use Rattle.dt_map.specs.declared.typemap.Entry.{Entry}
 use Rattle.dt_map.specs.Numbers.{below, padding}
-use Rattle.dt_map.specs.Typemap.{Marked}
-use Rattle.dt_map.specs.Bounds.{bounds_of, alignment, true_lb, true_ub, natural_ub}
+use Rattle.dt_map.specs.Typemap.{Marked, shift}
+use Rattle.dt_map.specs.Bounds.{bounds_of, alignment, true_lb, true_ub, natural_ub, extent_of, lower, upper}
 use Rattle.dt_map.specs.Placing.{place}
 use Rattle.dt_map.specs.Constructors.{copies_at}
+use Rattle.dt_map.specs.Elements.{elements, are_inside, IsByteOf, Overlaps}
+use Rattle.dt_map.specs.Limits.{Fits}
 use Rattle.dt_map.specs.Packed.{total}
-use Rattle.dt_map.specs.Setting.{done}
-use Rattle.dt_map.specs.Summary.{summary_of, no_summary, shifted, joined, copied, reach_of, bounds_from}
+use Rattle.dt_map.specs.Setting.{done, set_each}
+use Rattle.dt_map.specs.Summary.{summary_of, no_summary, shifted, joined, copied, reach_of, stretched, bounds_from}
 
 -- the padding makes a number a multiple, and no lesser one does
 abbrev pub PaddingIsLeast : Type 0
@@ -42,11 +47,39 @@ SummaryOfJoined =
 abbrev pub SummaryOfCopies : Type 0
 SummaryOfCopies = (offsets : List ℤ) (m : Marked) → summary_of (copies_at offsets m) ≡ copied (reach_of offsets) (length offsets) (summary_of m)
 
--- the reach of joined offsets, of offsets further on, and of n + 1 offsets with an even step
+-- the reach of n + 1 offsets with an even step, which may be negative
 abbrev pub ReachOfEven : Type 0
 ReachOfEven =
     (first step : ℤ) (n : ℕ) → reach_of (map (λ i. first +ℤ (pos i *ℤ step)) (below (suc n)))
     ≡ Some (record { lb = int_min first (first +ℤ (pos n *ℤ step)); ub = int_max first (first +ℤ (pos n *ℤ step)) })
+
+-- each of some offsets from each of others on, block by block
+abbrev pub sums : List ℤ → List ℤ → List ℤ
+sums xs ys = flat_map (λ x. map (λ y. y +ℤ x) ys) xs
+
+-- the reach of sums of offsets is the sum of their reaches
+abbrev pub ReachOfSums : Type 0
+ReachOfSums = (xs ys : List ℤ) → reach_of (sums xs ys) ≡ stretched (reach_of xs) (reach_of ys)
+
+-- n whole rows of b and r of a last one, counted through by one number
+abbrev pub InRows : Type 0
+InRows =
+    (f : ℕ → ℕ → ℤ) (b n r : ℕ) → r ≤ b → map (λ q. f (q / b) (q % b)) (below (n * b + r))
+    ≡ flat_map (λ i. map (f i) (below b)) (below n) ++ map (f n) (below r)
+
+-- the elements are what copies at multiples of the extent place, from the origin on
+abbrev pub ElementsArePlaced : Type 0
+ElementsArePlaced =
+    (m : Marked) (n : ℕ) (origin : ℤ) → elements m n origin ≡ shift origin (copies_at (map (λ i. pos i *ℤ extent_of m) (below n)) m).entries
+
+-- the elements of one copy more
+abbrev pub ElementsOfMore : Type 0
+ElementsOfMore =
+    (m : Marked) (n : ℕ) (origin : ℤ) → elements m (suc n) origin ≡ elements m n origin ++ shift (origin +ℤ (pos n *ℤ extent_of m)) m.entries
+
+-- the packed bytes of an operation, by arithmetic
+abbrev pub TotalOfElements : Type 0
+TotalOfElements = (rep : Rep) (m : Marked) (n : ℕ) (origin : ℤ) → total rep (elements m n origin) ≡ n * total rep m.entries
 
 -- members further on
 abbrev pub further : ℤ → List (ℤ × Marked) → List (ℤ × Marked)
@@ -62,3 +95,27 @@ DoneIsGreatest =
     (rep : Rep) (es : List Entry) (n : ℕ) → (done rep es n ≤ length es)
     × (total rep (take (done rep es n) es) ≤ n)
     × ((k : ℕ) → k ≤ length es → total rep (take k es) ≤ n → k ≤ done rep es n)
+
+-- the image of element i, where images stand one after another
+abbrev pub image_at : Rep → List Entry → ℕ → Entry → List ℕ → List ℕ
+image_at rep es i e images = take (packed_size rep e.kind) (drop (total rep (take i es)) images)
+
+-- setting elements keeps the buffer's length and each byte that is no element's
+abbrev pub SettingKeepsTheRest : Type 0
+SettingKeepsTheRest =
+    (rep : Rep) (es : List Entry) (buffer images : List ℕ) → IsTrue (are_inside (length buffer) es) → total rep es ≤ length images
+    → (length (set_each rep es buffer images) ≡ length buffer)
+    × ((x : ℕ) → All (λ e. ¬ IsByteOf (pos x) e) es → slice_index (set_each rep es buffer images) x ≡ slice_index buffer x)
+
+-- setting elements that don't overlap gives each byte of one of them what its image stands for
+abbrev pub SettingSetsEach : Type 0
+SettingSetsEach =
+    (rep : Rep) (es : List Entry) (buffer images : List ℕ) → IsTrue (are_inside (length buffer) es) → total rep es ≤ length images → ¬ Overlaps es
+    → (i x : ℕ) (d : Entry) → i < length es → let e = slice_index_or es i d in
+      IsByteOf (pos x) e → slice_index (set_each rep es buffer images) x ≡ slice_index (restore rep e.kind (image_at rep es i e images)) (x - nat_abs e.disp)
+
+-- the bounds of a typemap in range are in range, but that the natural upper bound may pass the limit by at most 7
+abbrev pub BoundsAreInRange : Type 0
+BoundsAreInRange =
+    (m : Marked) → Fits m → FitsDisp (true_lb m.entries) × FitsDisp (true_ub m.entries) × FitsDisp (lower m)
+    × (negsuc 1152921504606846975 ≤ℤ upper m) × (upper m ≤ℤ pos 1152921504606846983)

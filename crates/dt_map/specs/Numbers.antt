@@ -1,4 +1,4 @@
-use Rattle.std.specs.Prelude.{Option, Some, None, ℕ, zero, suc, ◌+◌, ◌-◌, ◌%◌, ℤ, List, [], ◌∷◌, ◌++◌}
+use Rattle.std.specs.Prelude.{Option, Some, None, ℕ, zero, suc, ◌-◌, ◌%◌, ℤ, List, [], ◌∷◌, ◌++◌}
 use Rattle.std.specs.Int.{int_min, int_max}
 
 -- 0, 1, .. without n

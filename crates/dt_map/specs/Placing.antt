@@ -1,4 +1,4 @@
-use Rattle.std.specs.Prelude.{Option, Some, None, ◌+ℤ◌, ℤ, List, [], ◌∷◌}
+use Rattle.std.specs.Prelude.{Option, Some, None, ℤ, List, [], ◌∷◌}
 use Rattle.std.specs.List.{flat_map}
 use Rattle.std.specs.Int.{int_min, int_max}
 use Rattle.dt_map.specs.declared.typemap.Marks.{Marks}

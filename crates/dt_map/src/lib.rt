@@ -1,6 +1,7 @@
 //! Typemaps of MPI datatypes as plain lists, with their bounds.
 #![tactic(auto)]
 
+pub mod laws;
 pub mod typemap;
 
 pub use typemap::{Bounds, Entry, FlatMap, MapFault, Marks};

@@ -1,0 +1,191 @@
+-- how summaries shift, join and copy
+use Rattle.std.proofs.Common.{◌≡◌, ℕ, zero, suc, ◌<◌, max, ℤ, pos, ◌+ℤ◌, Option, Some, None, List, [], ◌∷◌, ◌++◌, map, length, refl, sym, ap, ◌∙◌, arith, length-append, append-nil, unwrap_or, option_map}
+use Rattle.std.proofs.lemmas.Int.{ints, clamps}
+use Rattle.std.proofs.lemmas.List.Sums.{sum_by-append, sum_by-cons}
+use Rattle.std.proofs.lemmas.Grind.{flat_map-append}
+use Rattle.std.specs.List.{flat_map}
+use Rattle.dt_kinds.specs.Kind.{native_size, external_size}
+use Rattle.dt_map.specs.declared.typemap.Entry.{Entry}
+use Rattle.dt_map.specs.declared.typemap.Marks.{Marks}
+use Rattle.dt_map.specs.Typemap.{Marked, shift, shift_entry, shift_marks}
+use Rattle.dt_map.specs.Bounds.{end_of, size_of, external_size_of, alignment, true_lb, true_ub, lower_from, upper_from, natural_end}
+use Rattle.dt_map.specs.Numbers.{lesser, greater, least, greatest}
+use Rattle.dt_map.specs.Placing.{joined_marks, placed_marks}
+use Rattle.dt_map.specs.Constructors.{copies_at}
+use Rattle.dt_map.specs.Summary.{Summary, summary_of, span_of, reach_of, stretched, shifted, joined, copied, copied_align, lb_or_zero, ub_or_zero, lb_from, ub_from}
+use Rattle.dt_map.specs.Laws.{BoundsFromSummary, SummaryOfNone, SummaryOfShifted, SummaryOfJoined, SummaryOfCopies}
+use Rattle.dt_map.proofs.Extremes.{alignment-pos, alignment-append}
+
+-- pairs of bounds
+pub both : (low_a low_b high_a high_b : ℤ) → low_a ≡ low_b → high_a ≡ high_b → Some (let m : Marks = record { lb = low_a; ub = high_a } in m) ≡ Some (record { lb = low_b; ub = high_b })
+both low_a low_b high_a high_b e f = cc
+
+pub joined_marks_assoc : (a b c : Option Marks) → joined_marks (joined_marks a b) c ≡ joined_marks a (joined_marks b c)
+joined_marks_assoc None b c = refl
+joined_marks_assoc (Some a) None c = refl
+joined_marks_assoc (Some a) (Some b) None = refl
+joined_marks_assoc (Some a) (Some b) (Some c) = both _ _ _ _ (omega (arith, ints, clamps)) (omega (arith, ints, clamps))
+
+pub joined_marks_none : (a : Option Marks) → joined_marks a None ≡ a
+joined_marks_none None = refl
+joined_marks_none (Some a) = refl
+
+pub shift_marks-joined : (x : ℤ) (a b : Option Marks) → shift_marks x (joined_marks a b) ≡ joined_marks (shift_marks x a) (shift_marks x b)
+shift_marks-joined x None b = refl
+shift_marks-joined x (Some a) None = refl
+shift_marks-joined x (Some a) (Some b) = both _ _ _ _ (omega (arith, ints, clamps)) (omega (arith, ints, clamps))
+
+pub shift_marks-shift_marks : (x y : ℤ) (a : Option Marks) → shift_marks x (shift_marks y a) ≡ shift_marks (y +ℤ x) a
+shift_marks-shift_marks x y None = refl
+shift_marks-shift_marks x y (Some a) = both _ _ _ _ (omega (arith, ints)) (omega (arith, ints))
+
+pub stretched_more : (x : ℤ) (reach bounds : Option Marks) →
+    joined_marks (shift_marks x bounds) (stretched reach bounds) ≡ stretched (joined_marks (Some (record { lb = x; ub = x })) reach) bounds
+stretched_more x None None = refl
+stretched_more x (Some r) None = refl
+stretched_more x None (Some b) = refl
+stretched_more x (Some r) (Some b) = both _ _ _ _ (omega (arith, ints, clamps)) (omega (arith, ints, clamps))
+
+-- entries further on
+pub size_of-shift : (x : ℤ) (es : List Entry) → size_of (shift x es) ≡ size_of es
+size_of-shift x [] = refl
+size_of-shift x (e ∷ es) =
+    let h = size_of-shift x es in
+    let f : Entry → ℕ = λ e. native_size e.kind in
+    omega (arith, sum_by-cons f (shift_entry x e) (shift x es), sum_by-cons f e es)
+
+pub external_size_of-shift : (x : ℤ) (es : List Entry) → external_size_of (shift x es) ≡ external_size_of es
+external_size_of-shift x [] = refl
+external_size_of-shift x (e ∷ es) =
+    let h = external_size_of-shift x es in
+    let f : Entry → ℕ = λ e. external_size e.kind in
+    omega (arith, sum_by-cons f (shift_entry x e) (shift x es), sum_by-cons f e es)
+
+pub length-shift : (x : ℤ) (es : List Entry) → length (shift x es) ≡ length es
+length-shift x [] = refl
+length-shift x (e ∷ es) = let h = length-shift x es in omega arith
+
+pub alignment-shift : (x : ℤ) (es : List Entry) → alignment (shift x es) ≡ alignment es
+alignment-shift x [] = refl
+alignment-shift x (e ∷ es) = ap (max (native_size e.kind)) (alignment-shift x es)
+
+entry_further : (x : ℤ) (e : Entry) → Some (let m : Marks = record { lb = e.disp +ℤ x; ub = end_of (shift_entry x e) } in m) ≡ shift_marks x (Some (record { lb = e.disp; ub = end_of e }))
+entry_further x e = both _ _ _ _ refl (omega (arith, ints))
+
+pub span_of-shift : (x : ℤ) (es : List Entry) → span_of (shift x es) ≡ shift_marks x (span_of es)
+span_of-shift x [] = refl
+span_of-shift x (e ∷ es) =
+    let here : Option Marks = Some (record { lb = e.disp; ub = end_of e }) in
+    ap (λ s. joined_marks s (span_of (shift x es))) (entry_further x e)
+    ∙ (ap (joined_marks (shift_marks x here)) (span_of-shift x es) ∙ sym (shift_marks-joined x here (span_of es)))
+
+pub span_of-append : (xs ys : List Entry) → span_of (xs ++ ys) ≡ joined_marks (span_of xs) (span_of ys)
+span_of-append [] ys = refl
+span_of-append (e ∷ xs) ys =
+    let here : Option Marks = Some (record { lb = e.disp; ub = end_of e }) in
+    ap (joined_marks here) (span_of-append xs ys) ∙ sym (joined_marks_assoc here (span_of xs) (span_of ys))
+
+pub placed_marks-append : (ms ns : List (ℤ × Marked)) → placed_marks (ms ++ ns) ≡ joined_marks (placed_marks ms) (placed_marks ns)
+placed_marks-append [] ns = refl
+placed_marks-append (m ∷ ms) ns =
+    ap (joined_marks (shift_marks m.0 m.1.marks)) (placed_marks-append ms ns) ∙ sym (joined_marks_assoc (shift_marks m.0 m.1.marks) (placed_marks ms) (placed_marks ns))
+
+-- two summaries with the same parts
+same_summary : (size size' ext ext' elements elements' align align' : ℕ) (span span' marks marks' : Option Marks) →
+    size ≡ size' → ext ≡ ext' → elements ≡ elements' → align ≡ align' → span ≡ span' → marks ≡ marks' →
+    (let s : Summary = record { size = size; ext_size = ext; elements = elements; align = align; span = span; marks = marks } in s)
+    ≡ record { size = size'; ext_size = ext'; elements = elements'; align = align'; span = span'; marks = marks' }
+same_summary size size' ext ext' elements elements' align align' span span' marks marks' e1 e2 e3 e4 e5 e6 = cc
+
+pub summary_of_none : SummaryOfNone
+summary_of_none = refl
+
+pub summary_of_shifted : SummaryOfShifted
+summary_of_shifted x m =
+    let alone = append-nil (shift x m.entries) in
+    same_summary _ _ _ _ _ _ _ _ _ _ _ _
+    (ap size_of alone ∙ size_of-shift x m.entries)
+    (ap external_size_of alone ∙ external_size_of-shift x m.entries)
+    (ap length alone ∙ length-shift x m.entries)
+    (ap alignment alone ∙ alignment-shift x m.entries)
+    (ap span_of alone ∙ span_of-shift x m.entries)
+    (joined_marks_none (shift_marks x m.marks))
+
+-- what a member places
+abbrev placed : ℤ × Marked → List Entry
+placed member = shift member.0 member.1.entries
+
+pub summary_of_joined : SummaryOfJoined
+summary_of_joined ms ns =
+    let parts = flat_map-append placed ms ns in
+    let before = flat_map placed ms in
+    let after = flat_map placed ns in
+    same_summary _ _ _ _ _ _ _ _ _ _ _ _
+    (ap size_of parts ∙ sum_by-append (λ (e : Entry). native_size e.kind) before after)
+    (ap external_size_of parts ∙ sum_by-append (λ (e : Entry). external_size e.kind) before after)
+    (ap length parts ∙ length-append before after)
+    (ap alignment parts ∙ alignment-append before after)
+    (ap span_of parts ∙ span_of-append before after)
+    (placed_marks-append ms ns)
+
+greater_align : (n align : ℕ) → 0 < align → max align (copied_align n align) ≡ align
+greater_align zero align positive = omega arith
+greater_align (suc n) align positive = omega arith
+
+-- one copy more
+copied_more : (x : ℤ) (reach : Option Marks) (n : ℕ) (s : Summary) → 0 < s.align →
+    joined (shifted x s) (copied reach n s) ≡ copied (joined_marks (Some (record { lb = x; ub = x })) reach) (suc n) s
+copied_more x reach n s positive =
+    same_summary _ _ _ _ _ _ _ _ _ _ _ _
+    (omega arith) (omega arith) (omega arith) (greater_align n s.align positive) (stretched_more x reach s.span) (stretched_more x reach s.marks)
+
+pub summary_of_copies : SummaryOfCopies
+summary_of_copies [] m = same_summary _ _ _ _ _ _ _ _ _ _ _ _ (omega arith) (omega arith) (omega arith) refl refl refl
+summary_of_copies (x ∷ offsets) m =
+    summary_of_joined ((x, m) ∷ []) (map (λ x. (x, m)) offsets)
+    ∙ (ap (λ s. joined s (summary_of (copies_at offsets m))) (summary_of_shifted x m)
+    ∙ (ap (joined (shifted x (summary_of m))) (summary_of_copies offsets m)
+    ∙ copied_more x (reach_of offsets) (length offsets) (summary_of m) (alignment-pos m.entries)))
+
+-- bounds from a summary
+lesser_lb : (x y : ℤ) (s : Option Marks) → lesser (Some x) (option_map (λ m. m.lb) s) ≡ option_map (λ m. m.lb) (joined_marks (Some (record { lb = x; ub = y })) s)
+lesser_lb x y None = refl
+lesser_lb x y (Some m) = refl
+
+greater_ub : (x y : ℤ) (s : Option Marks) → greater (Some y) (option_map (λ m. m.ub) s) ≡ option_map (λ m. m.ub) (joined_marks (Some (record { lb = x; ub = y })) s)
+greater_ub x y None = refl
+greater_ub x y (Some m) = refl
+
+least_is : (es : List Entry) → least (map (λ e. e.disp) es) ≡ option_map (λ m. m.lb) (span_of es)
+least_is [] = refl
+least_is (e ∷ es) = ap (lesser (Some e.disp)) (least_is es) ∙ lesser_lb e.disp (end_of e) (span_of es)
+
+greatest_is : (es : List Entry) → greatest (map end_of es) ≡ option_map (λ m. m.ub) (span_of es)
+greatest_is [] = refl
+greatest_is (e ∷ es) = ap (greater (Some (end_of e))) (greatest_is es) ∙ greater_ub e.disp (end_of e) (span_of es)
+
+lb_or_zero_is : (s : Option Marks) → unwrap_or (option_map (λ m. m.lb) s) (pos 0) ≡ lb_or_zero s
+lb_or_zero_is None = refl
+lb_or_zero_is (Some m) = refl
+
+ub_or_zero_is : (s : Option Marks) → unwrap_or (option_map (λ m. m.ub) s) (pos 0) ≡ ub_or_zero s
+ub_or_zero_is None = refl
+ub_or_zero_is (Some m) = refl
+
+pub true_lb_is : (es : List Entry) → true_lb es ≡ lb_or_zero (span_of es)
+true_lb_is es = ap (λ o. unwrap_or o (pos 0)) (least_is es) ∙ lb_or_zero_is (span_of es)
+
+pub true_ub_is : (es : List Entry) → true_ub es ≡ ub_or_zero (span_of es)
+true_ub_is es = ap (λ o. unwrap_or o (pos 0)) (greatest_is es) ∙ ub_or_zero_is (span_of es)
+
+bounds_with : (m : Marked) (marks : Option Marks) (s : Option Marks) → true_lb m.entries ≡ lb_or_zero s → true_ub m.entries ≡ ub_or_zero s →
+    (lower_from marks m.entries ≡ lb_from marks s) × (upper_from marks m.entries ≡ ub_from marks s (alignment m.entries))
+bounds_with m None s f g = (f, ap (λ z. natural_end z (true_ub m.entries) (alignment m.entries)) f ∙ ap (λ z. natural_end (lb_or_zero s) z (alignment m.entries)) g)
+bounds_with m (Some marks) s f g = (refl, refl)
+
+pub bounds_from_summary : BoundsFromSummary
+bounds_from_summary m =
+    let low = true_lb_is m.entries in
+    let high = true_ub_is m.entries in
+    let ends = bounds_with m m.marks (span_of m.entries) low high in
+    cc

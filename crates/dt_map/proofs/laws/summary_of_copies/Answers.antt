@@ -1,0 +1,5 @@
+use Rattle.dt_map.proofs.Summaries.{summary_of_copies}
+use Rattle.dt_map.proofs.laws.summary_of_copies.Goals as goal
+
+pub returns : goal.returns
+returns c = summary_of_copies
