@@ -67,8 +67,8 @@ impl<R: Read + Drop> Source for StdSource<R> {
 }
 
 /// A sink over a writer of std, as `main` makes one of standard output. It doesn't tell its bytes. It
-/// flushes after each piece, and a fault is each `Err` of the writer and each write that takes nothing of
-/// a piece that isn't empty.
+/// flushes after each piece. Each `Err` of the writer is a fault, of a flush too, after which the writer may
+/// hold some of the piece; and so is each write that takes nothing of a piece that isn't empty.
 #[derive(Drop)]
 pub struct StdSink<W> {
     writer: W,
