@@ -20,8 +20,8 @@ abbrev pub WriteFails : SinkState → List ℕ → Type 0
 WriteFails s piece = Contains s.fail s.writes ⊎ ((0 < length piece) × (s.room ≡ 0))
 
 -- how many bytes of a piece a write takes that doesn't fail
-abbrev pub accepted : SinkState → List ℕ → ℕ
-accepted s piece = min s.most (min s.room (length piece))
+abbrev pub accepted_len : SinkState → List ℕ → ℕ
+accepted_len s piece = min s.most (min s.room (length piece))
 
 -- it after a write of a piece, by what that answered
 abbrev pub after_write : {E : Type 0} → SinkState → List ℕ → Result ℕ E → SinkState

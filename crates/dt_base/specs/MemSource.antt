@@ -20,8 +20,8 @@ abbrev pub ReadFails : SourceState → Type 0
 ReadFails s = Contains s.fail s.reads
 
 -- how many bytes a read gives that doesn't fail, into so many bytes of room
-abbrev pub given : SourceState → ℕ → ℕ
-given s room = min s.most (min (length s.left) room)
+abbrev pub given_len : SourceState → ℕ → ℕ
+given_len s room = min s.most (min (length s.left) room)
 
 -- it after a read, by what that answered
 abbrev pub after_read : {E : Type 0} → SourceState → Result ℕ E → SourceState

