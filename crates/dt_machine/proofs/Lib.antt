@@ -1,2 +1,3 @@
 pub mod PackingLemmas
 pub mod VectorLemmas
+pub mod StepLemmas

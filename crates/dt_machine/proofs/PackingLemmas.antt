@@ -1,7 +1,5 @@
 -- Packing one element, or some elements, after others.
 use Rattle.std.proofs.Common.{◌≡◌, ℕ, zero, suc, add-one, ◌==◌, ◌+◌, ◌*◌, ◌<◌, ◌≤◌, ℤ, pos, ◌+ℤ◌, ◌*ℤ◌, ◌≤ℤ◌, Bool, true, false, ◌&&◌, List, [], ◌∷◌, ◌++◌, length, take, get_or, map, refl, ap, sym, subst, ◌∙◌, append_assoc, arith}
-use Rattle.std.proofs.Common.{SFits}
-use Rattle.std.specs.Int.{w64}
 use Rattle.std.proofs.lemmas.Int.{ints}
 use Rattle.std.proofs.Math.Bool.{and-false}
 use Rattle.std.proofs.lemmas.Bool.{eqb-true}
@@ -16,6 +14,7 @@ use Rattle.dt_map.specs.Elements.{lies_inside, are_inside, copies}
 use Rattle.dt_map.specs.Numbers.{below}
 use Rattle.dt_map.specs.Packed.{bytes_at, packed}
 use Rattle.dt_map.specs.Typemap.{shift, shift_entry}
+use Rattle.dt_machine.specs.Near.{IsBetween}
 use Rattle.dt_machine.specs.Packing.{Packs}
 
 -- elements and then more of them
@@ -71,10 +70,10 @@ copy_outside len entries extent count i origin at h is e =
 pub next_place : (origin extent at next : ℤ) (i : ℕ) → at ≡ origin +ℤ (pos i *ℤ extent) → next ≡ at +ℤ extent → next ≡ origin +ℤ (pos (i + 1) *ℤ extent)
 next_place origin extent at next i is step = omega (arith, ints)
 
-pub next_low : (extent at next : ℤ) (i : ℕ) → SFits w64 extent → pos 0 ≤ℤ (at +ℤ pos (9223372036854775808 * (i + 1))) → next ≡ at +ℤ extent
-    → pos 0 ≤ℤ (next +ℤ pos (9223372036854775808 * (i + 1 + 1)))
-next_low extent at next i fits low step = omega (arith, ints)
+pub next_low : (extent at next : ℤ) (i : ℕ) → IsBetween extent → pos 0 ≤ℤ (at +ℤ pos (18446744073709551616 * (i + 1))) → next ≡ at +ℤ extent
+    → pos 0 ≤ℤ (next +ℤ pos (18446744073709551616 * (i + 1 + 1)))
+next_low extent at next i between low step = omega (arith, ints)
 
-pub next_high : (extent at next : ℤ) (i : ℕ) → SFits w64 extent → at ≤ℤ pos (9223372036854775808 * (i + 1)) → next ≡ at +ℤ extent
-    → next ≤ℤ pos (9223372036854775808 * (i + 1 + 1))
-next_high extent at next i fits high step = omega (arith, ints)
+pub next_high : (extent at next : ℤ) (i : ℕ) → IsBetween extent → at ≤ℤ pos (18446744073709551616 * (i + 1)) → next ≡ at +ℤ extent
+    → next ≤ℤ pos (18446744073709551616 * (i + 1 + 1))
+next_high extent at next i between high step = omega (arith, ints)

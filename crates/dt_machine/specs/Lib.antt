@@ -1,6 +1,8 @@
 pub mod Answers
+pub mod Layout
 pub mod Near
 pub mod Packing
+pub mod Range
 pub mod Refusal
 pub mod Reply
 pub mod State

@@ -33,3 +33,7 @@ is_accepted (Refused r) = false
 pub record Gives (reply : Reply) (accepted : Bool) (old new : List ℕ) : Type 0 where
   pub text : new ≡ old ++ text_of reply
   pub answer : accepted ≡ is_accepted reply
+
+-- some reply that is allowed was given
+abbrev pub Responds : (Reply → Type 0) → Bool → List ℕ → List ℕ → Type 0
+Responds allowed accepted old new = (reply : Reply) × allowed reply × Gives reply accepted old new

@@ -26,9 +26,7 @@ impl Buffer {
     {
         let mut bytes = Vec::new(alloc);
         for i in 0..len {
-            let Ok(()) = bytes.push((i % 256) as u8) else {
-                return Err(NoMemory);
-            };
+            bytes.push((i % 256) as u8)?;
         }
         Ok(Buffer { bytes })
     }

@@ -4,6 +4,9 @@
 mod buffer;
 pub mod machine;
 mod packing;
+
+pub use machine::Machine;
+
 pub mod refusal;
 mod reply;
 mod vector;

@@ -1,7 +1,7 @@
 //! The packed bytes of copies of entries.
 ghost use Rattle.std.specs.Prelude.{◌≡◌, ◌+◌, ◌+ℤ◌, ◌<◌, ◌≤◌, List, [], length, take, drop, ◌++◌, IsTrue, IsFalse, IfOk, MatchOption, MatchBool, false, true};
 ghost use Rattle.dt_kinds.specs.declared.kind.Rep.TheVariants.{Native};
-ghost use Rattle.dt_machine.specs.Near.{IsNear};
+ghost use Rattle.dt_machine.specs.Near.{IsNear, IsBetween};
 ghost use Rattle.dt_machine.specs.Packing.{Packs, PacksIf};
 ghost use Rattle.dt_map.specs.Typemap.{shift, shift_entry};
 ghost use Rattle.dt_map.specs.Elements.{copies, lies_inside, are_inside};
@@ -43,30 +43,30 @@ fn pack_copy(
         let Some(bytes) = bytes_at(buffer, *entry, at) else {
             return Ok(false);
         };
-        let Ok(()) = out.extend_from_slice(bytes) else {
-            return Err(NoMemory);
-        };
+        out.extend_from_slice(bytes)?;
     }
     Ok(true)
 }
 
 /// A place so many bytes further on.
-fn further(at: i128, extent: i64) -> i128
-    requires { IsNear at }
+fn further(at: i128, extent: i128) -> i128
+    requires at { IsNear at }
+    requires extent { IsBetween extent }
     ensures { result ≡ at +ℤ extent }
 {
-    at + i128::from(extent)
+    at + extent
 }
 
 /// The native bytes of copies of entries, or None where an element lies outside the buffer.
 pub(crate) fn pack(
     alloc: Global,
     entries: &[Entry],
-    extent: i64,
+    extent: i128,
     count: u32,
     origin: i64,
     buffer: &[u8],
 ) -> Result<Option<Vec<u8>>, NoMemory>
+    requires { IsBetween extent }
     ensures { IfOk result (λ found. MatchOption found
         (IsFalse (are_inside (length buffer.now) (copies entries.now extent count origin)))
         (λ bytes. Packs buffer.now (copies entries.now extent count origin) [] bytes.items)) }

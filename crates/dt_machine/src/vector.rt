@@ -42,9 +42,7 @@ fn push_block(entries: &mut Vec<Entry>, start: i64, len: u32) -> Result<(), NoMe
     ensures { OnOk result (entries.new.items ≡ entries.old.items ++ ints_at (block_offsets start len (pos 4))) }
 {
     for j in 0..len {
-        let Ok(()) = entries.push(int_at(place_in_block(start, j))) else {
-            return Err(NoMemory);
-        };
+        entries.push(int_at(place_in_block(start, j)))?;
     }
     Ok(())
 }

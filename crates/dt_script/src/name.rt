@@ -1,9 +1,10 @@
-ghost use Rattle.std.specs.Prelude.{◌≡◌, IsTrue, if◌then◌else◌};
+ghost use Rattle.std.specs.Prelude.{◌≡◌, IsTrue, IfOk, if◌then◌else◌};
 ghost use Rattle.std.specs.List.{list_all};
 ghost use Rattle.dt_script.specs.Name.{is_letter, begins_with_letter, is_name_byte, is_name, is_type_word, begins_with_mpi};
 
 use crate::number::is_digit;
 use arrayvec::ArrayVec;
+use dt_kinds::NoMemory;
 use std::marker::Model;
 
 /// A name of a script: a letter first, letters, digits and `_`, 1 to 32 of them.
@@ -85,6 +86,13 @@ impl Name {
         ensures name { IsTrue (is_name self.now) }
     {
         self.bytes.as_slice()
+    }
+
+    /// The same name again.
+    pub fn copied(&self) -> Result<Name, NoMemory>
+        ensures same { IfOk result (λ name. name ≡ self.now) }
+    {
+        Ok(self.clone()?)
     }
 
     /// Whether the name begins as those of MPI do.

@@ -7,7 +7,7 @@ use Rattle.dt_machine.proofs.packing.pack.Given as goal
 abbrev pub invariant-copies : goal.invariant-copies
 invariant-copies l = record {
   place : l.at ≡ l.origin +ℤ (pos l.counter *ℤ l.extent);
-  low : pos 0 ≤ℤ (l.at +ℤ pos (9223372036854775808 * (l.counter + 1)));
-  high : l.at ≤ℤ pos (9223372036854775808 * (l.counter + 1));
+  low : pos 0 ≤ℤ (l.at +ℤ pos (18446744073709551616 * (l.counter + 1)));
+  high : l.at ≤ℤ pos (18446744073709551616 * (l.counter + 1));
   packed : Packs l.buffer (copies l.entries l.extent l.counter l.origin) [] l.bytes.items;
 }
