@@ -1,3 +1,4 @@
 pub mod PackingLemmas
 pub mod VectorLemmas
 pub mod StepLemmas
+pub mod RangeLemmas

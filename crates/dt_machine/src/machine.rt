@@ -179,6 +179,22 @@ impl Machine {
         Ok(true)
     }
 
+    /// `type NAME = CTOR`
+    fn define(&mut self, name: &Name, ctor: &Ctor, out: &mut Vec<u8>) -> Result<bool, NoMemory>
+        requires { IsWritten (Define name.now ctor.now) }
+        ensures ok { IfOk result (λ accepted. Responds
+            (λ reply. Obeys (Define name.now ctor.now) self.old reply self.new) accepted out.old.items out.new.items) }
+        ensures err { OnErr result ((self.new ≡ self.old) × (out.new.items ≡ out.old.items)) }
+    {
+        let Ctor::Hvector {
+            count,
+            block,
+            stride,
+            old: _,
+        } = ctor;
+        self.define_hvector(name, *count, *block, *stride, out)
+    }
+
     /// `buffer NAME count LENGTH`
     fn make_buffer(&mut self, name: &Name, len: i32, out: &mut Vec<u8>) -> Result<bool, NoMemory>
         ensures ok { IfOk result (λ accepted. Responds
@@ -226,5 +242,40 @@ impl Machine {
         let line = packed_line(self.alloc, &packed)?;
         out.extend_from_slice(&line)?;
         Ok(true)
+    }
+
+    /// Obeys a command that a line gave, and appends one reply line.
+    fn step(&mut self, command: &Command, out: &mut Vec<u8>) -> Result<bool, NoMemory>
+        requires { IsWritten command.now }
+        ensures ok { IfOk result (λ accepted. Responds
+            (λ reply. Obeys command.now self.old reply self.new) accepted out.old.items out.new.items) }
+        ensures err { OnErr result ((self.new ≡ self.old) × (out.new.items ≡ out.old.items)) }
+    {
+        match command {
+            Command::Define { name, ctor } => self.define(name, ctor, out),
+            Command::Buffer { name, fill } => match fill {
+                Fill::Count(len) => self.make_buffer(name, *len, out),
+            },
+            Command::Bytes {
+                rep: _,
+                count,
+                ty,
+                buffer,
+                origin,
+            } => self.reply_bytes(*count, ty, buffer, *origin, out),
+        }
+    }
+
+    /// Takes one line of a script, without its end, and appends the reply to it: nothing for a blank or comment line.
+    /// It answers whether the reply is no refusal. Where memory runs out the machine and `out` are as before.
+    pub fn line(&mut self, line: &[u8], out: &mut Vec<u8>) -> Result<bool, NoMemory>
+        ensures step { IfOk result (λ accepted. Responds (λ reply. Step self.old line.now reply self.new) accepted out.old.items out.new.items) }
+        ensures err { OnErr result ((self.new ≡ self.old) × (out.new.items ≡ out.old.items)) }
+    {
+        match parse_line(line) {
+            Ok(None) => Ok(true),
+            Ok(Some(command)) => self.step(&command, out),
+            Err(LineFault::Syntax) => self.refuse(Refusal::Syntax, out),
+        }
     }
 }
