@@ -1,0 +1,41 @@
+//! The lines of an input, one after another.
+ghost use Rattle.std.specs.Prelude.{◌≡◌, ◌≢◌, ◌<◌, ◌≤◌, ◌==◌, [], ◌∷◌, List, length};
+ghost use Rattle.dt_machine.specs.Answers.{raw_lines, without_return, script_lines};
+ghost use Rattle.std.specs.List.{position_or_len};
+
+/// How many bytes stand before the first line feed.
+fn line_len(bytes: &[u8]) -> usize
+    ensures exact { position_or_len (λ b. b == 10) bytes.now ≡ result }
+    ensures fits { result ≤ length bytes.now }
+{
+    for (i, b) in bytes.iter().enumerate() {
+        if *b == 10 {
+            return i;
+        }
+    }
+    bytes.len()
+}
+
+/// A line without the one carriage return at its end.
+fn without_return(line: &[u8]) -> &[u8]
+    ensures { result.now ≡ without_return line.now }
+{
+    match line {
+        [front @ .., 13] => front,
+        _ => line,
+    }
+}
+
+/// The first line of an input, and the bytes after it.
+pub(crate) fn first_line(bytes: &[u8]) -> (&[u8], &[u8])
+    requires { bytes.now ≢ [] }
+    ensures lines { script_lines bytes.now ≡ result.0.now ∷ script_lines result.1.now }
+    ensures shorter { length result.1.now < length bytes.now }
+{
+    let (line, rest) = bytes.split_at(line_len(bytes));
+    let rest = match rest {
+        [_, rest @ ..] => rest,
+        [] => rest,
+    };
+    (without_return(line), rest)
+}
