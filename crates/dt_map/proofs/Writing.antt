@@ -117,11 +117,13 @@ one_keeps rep e es buffer images x h off =
     let bytes = h.bytes in
     let room = h.place.ends in
     elim (cases_lt x at) [
-      inl before ↦ written_before buffer at (first_bytes rep e images) x (omega (arith, bytes, room)) before
-    | inr from ↦
-      elim (cases_lt x (at + native_size e.kind)) [
-        inl to ↦ absurd (off_by e.disp at (native_size e.kind) x h.place.starts off from to)
-      | inr after ↦ written_after buffer at (first_bytes rep e images) x (omega (arith, bytes, room)) (omega (arith, bytes, after)) ] ]
+      | inl before ↦ written_before buffer at (first_bytes rep e images) x (omega (arith, bytes, room)) before
+      | inr from ↦
+          elim (cases_lt x (at + native_size e.kind)) [
+            | inl to ↦ absurd (off_by e.disp at (native_size e.kind) x h.place.starts off from to)
+            | inr after ↦ written_after buffer at (first_bytes rep e images) x (omega (arith, bytes, room)) (omega (arith, bytes, after))
+          ]
+    ]
 
 one_sets : (rep : Rep) (e : Entry) (es : List Entry) (buffer images : List ℕ) (x : ℕ) → First rep e es buffer images → IsByteOf (pos x) e →
     get_or (set_one rep e buffer (first_image rep e images)) x 0 ≡ get_or (first_bytes rep e images) (x - nat_abs e.disp) 0

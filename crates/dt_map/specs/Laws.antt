@@ -15,7 +15,8 @@ use Rattle.dt_map.specs.Elements.{elements, are_inside, IsByteOf, Overlaps}
 use Rattle.dt_map.specs.Limits.{Fits}
 use Rattle.dt_map.specs.Packed.{total}
 use Rattle.dt_map.specs.Setting.{done, set_each}
-use Rattle.dt_map.specs.Summary.{summary_of, no_summary, shifted, joined, copied, reach_of, stretched, bounds_from}
+use Rattle.dt_map.specs.Summary.{summary_of, no_summary, shifted, joined, copied, bounds_from}
+use Rattle.dt_map.specs.Span.{point, reach_of, stretched}
 
 -- the padding makes a number a multiple, and no lesser one does
 abbrev pub PaddingIsLeast : Type 0
@@ -112,7 +113,7 @@ abbrev pub SettingSetsEach : Type 0
 SettingSetsEach =
     (rep : Rep) (es : List Entry) (buffer images : List ℕ) → IsTrue (are_inside (length buffer) es) → total rep es ≤ length images → ¬ Overlaps es
     → (i x : ℕ) (d : Entry) → i < length es → let e = slice_index_or es i d in
-      IsByteOf (pos x) e → slice_index (set_each rep es buffer images) x ≡ slice_index (restore rep e.kind (image_at rep es i e images)) (x - nat_abs e.disp)
+    IsByteOf (pos x) e → slice_index (set_each rep es buffer images) x ≡ slice_index (restore rep e.kind (image_at rep es i e images)) (x - nat_abs e.disp)
 
 -- the bounds of a typemap in range are in range, but that the natural upper bound may pass the limit by at most 7
 abbrev pub BoundsAreInRange : Type 0

@@ -81,17 +81,14 @@ pub fn done_is_greatest()
 /// Setting elements keeps the buffer's length and each byte that is no element's.
 pub fn setting_keeps_the_rest()
     ensures { SettingKeepsTheRest }
-{
-}
+{}
 
 /// Setting elements that don't overlap gives each byte of one of them what its image stands for.
 pub fn setting_sets_each()
     ensures { SettingSetsEach }
-{
-}
+{}
 
 /// The bounds of a typemap in range are in range, but that the natural upper bound may pass the limit by at most 7.
 pub fn bounds_are_in_range()
     ensures { BoundsAreInRange }
-{
-}
+{}
