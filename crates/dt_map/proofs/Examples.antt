@@ -1,10 +1,9 @@
 -- worked examples of the definitions, which compute
-use Rattle.std.proofs.Common.{◌≡◌, ℕ, ℤ, pos, negsuc, Option, Some, None, List, [], ◌∷◌, refl}
+use Rattle.std.proofs.Common.{◌≡◌, ℤ, pos, negsuc, Some, None, [], ◌∷◌, refl}
 use Rattle.dt_kinds.specs.declared.kind.Kind.TheVariants.{Byte, Int, Long}
 use Rattle.dt_kinds.specs.declared.kind.Rep.TheVariants.{Native, External32}
 use Rattle.dt_kinds.specs.Image.{image, restore}
 use Rattle.dt_map.specs.declared.typemap.Entry.{Entry}
-use Rattle.dt_map.specs.declared.typemap.Bounds.{Bounds}
 use Rattle.dt_map.specs.Typemap.{Marked}
 use Rattle.dt_map.specs.Bounds.{bounds_of}
 use Rattle.dt_map.specs.Placing.{place}

@@ -11,9 +11,9 @@ use Rattle.dt_map.specs.declared.typemap.Marks.{Marks}
 use Rattle.dt_map.specs.Numbers.{below}
 use Rattle.dt_map.specs.Typemap.{Marked, shift, shift_entry, shift_marks}
 use Rattle.dt_map.specs.Placing.{joined_marks, placed_marks, place}
-use Rattle.dt_map.specs.Span.{reach_of, point, entry_span}
+use Rattle.dt_map.specs.Span.{reach_of, point}
 use Rattle.dt_map.specs.Laws.{ReachOfEven, ReachOfSums, sums, InRows, PlacingOfPlacing, further}
-use Rattle.dt_map.proofs.Summaries.{both, stretched_more, spans-append, joined_marks_assoc, shift_marks-joined, shift_marks-shift_marks, placed_marks-append}
+use Rattle.dt_map.proofs.Summaries.{both, stretched_more, spans-append, shift_marks-joined, shift_marks-shift_marks, placed_marks-append}
 
 -- offsets x bytes further on
 pub reach_of-further : (x : ℤ) (xs : List ℤ) → reach_of (map (λ y. y +ℤ x) xs) ≡ shift_marks x (reach_of xs)

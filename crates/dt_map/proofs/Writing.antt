@@ -1,5 +1,5 @@
 -- setting elements: which bytes change, and to what
-use Rattle.std.proofs.Common.{◌≡◌, ℕ, zero, suc, ◌+◌, ◌-◌, ◌≤◌, ◌<◌, ◌⊎◌, inl, inr, Bool, true, false, ◌&&◌, ℤ, pos, negsuc, ◌+ℤ◌, ◌≤ℤ◌, ◌<ℤ◌, int_le, nat_abs, List, [], ◌∷◌, ◌++◌, take, drop, length, get_or, reverse, replicate, slice_index_or, refl, sym, ap, subst, ◌∙◌, arith, length-append, length-drop, IsTrue}
+use Rattle.std.proofs.Common.{◌≡◌, ℕ, zero, suc, ◌+◌, ◌-◌, ◌≤◌, ◌<◌, inl, inr, Bool, true, false, ◌&&◌, ℤ, pos, negsuc, ◌+ℤ◌, ◌≤ℤ◌, ◌<ℤ◌, int_le, nat_abs, List, [], ◌∷◌, ◌++◌, take, drop, length, get_or, reverse, replicate, slice_index_or, refl, sym, ap, subst, ◌∙◌, arith, length-append, length-drop}
 use Rattle.std.proofs.lemmas.Bool.{cases_lt}
 use Rattle.std.proofs.lemmas.Int.{ints}
 use Rattle.std.proofs.lemmas.List.{length-take-le, drop-drop, length-reverse, length-replicate, get_or_append_left, get_or-append_right, get_or-take, get_or-drop}
@@ -9,7 +9,7 @@ use Rattle.std.specs.List.{All, HoldsAt}
 use Rattle.dt_kinds.specs.declared.kind.Kind.{Kind}
 use Rattle.dt_kinds.specs.declared.kind.Rep.{Rep}
 use Rattle.dt_kinds.specs.declared.kind.Rep.TheVariants.{Native, External32}
-use Rattle.dt_kinds.specs.Kind.{native_size, external_size, packed_size}
+use Rattle.dt_kinds.specs.Kind.{native_size, packed_size}
 use Rattle.dt_kinds.specs.Image.{restore, filler}
 use Rattle.dt_kinds.proofs.Table.{external_is_no_larger}
 use Rattle.dt_map.specs.declared.typemap.Entry.{Entry}

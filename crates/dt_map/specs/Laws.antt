@@ -16,7 +16,7 @@ use Rattle.dt_map.specs.Limits.{Fits}
 use Rattle.dt_map.specs.Packed.{total}
 use Rattle.dt_map.specs.Setting.{done, set_each}
 use Rattle.dt_map.specs.Summary.{summary_of, no_summary, shifted, joined, copied, bounds_from}
-use Rattle.dt_map.specs.Span.{point, reach_of, stretched}
+use Rattle.dt_map.specs.Span.{reach_of, stretched}
 
 -- the padding makes a number a multiple, and no lesser one does
 abbrev pub PaddingIsLeast : Type 0
