@@ -9,15 +9,15 @@ use Rattle.std.specs.List.{All, HoldsAt}
 use Rattle.dt_kinds.specs.declared.kind.Kind.{Kind}
 use Rattle.dt_kinds.specs.declared.kind.Rep.{Rep}
 use Rattle.dt_kinds.specs.declared.kind.Rep.TheVariants.{Native, External32}
-use Rattle.dt_kinds.specs.Kind.{native_size, packed_size}
-use Rattle.dt_kinds.specs.Image.{restore, filler}
+use Rattle.dt_kinds.specs.Kind.{native_size, external_size, packed_size}
+use Rattle.dt_kinds.specs.Image.{image, restore, filler}
 use Rattle.dt_kinds.proofs.Table.{external_is_no_larger}
 use Rattle.dt_map.specs.declared.typemap.Entry.{Entry}
 use Rattle.dt_map.specs.Bounds.{end_of}
 use Rattle.dt_map.specs.Elements.{lies_inside, are_inside, IsByteOf, Overlaps}
-use Rattle.dt_map.specs.Packed.{total}
+use Rattle.dt_map.specs.Packed.{bytes_at, packed, total}
 use Rattle.dt_map.specs.Setting.{written, set_one, set_each}
-use Rattle.dt_map.specs.Laws.{image_at, SettingKeepsTheRest, SettingSetsEach}
+use Rattle.dt_map.specs.Laws.{image_at, PackedHasTotal, SettingKeepsTheRest, SettingSetsEach}
 
 both_true : (a b : Bool) → (a && b) ≡ true → (a ≡ true) × (b ≡ true)
 both_true true true e = (refl, refl)
@@ -74,6 +74,24 @@ length-restore External32 kind packed e =
 
 total-cons : (rep : Rep) (e : Entry) (es : List Entry) → total rep (e ∷ es) ≡ packed_size rep e.kind + total rep es
 total-cons rep e es = sum_by-cons (λ (e : Entry). packed_size rep e.kind) e es
+
+-- what is packed
+length-image : (rep : Rep) (kind : Kind) (bytes : List ℕ) → length bytes ≡ native_size kind → length (image rep kind bytes) ≡ packed_size rep kind
+length-image Native kind bytes e = e
+length-image External32 kind bytes e = length-reverse (take (external_size kind) bytes) ∙ length-take-le (external_size kind) bytes (omega (arith, e, external_is_no_larger kind))
+
+length-bytes_at : (buffer : List ℕ) (e : Entry) → Lies (length buffer) e → length (bytes_at buffer e) ≡ native_size e.kind
+length-bytes_at buffer e h =
+    let room = h.ends in
+    length-take-le (native_size e.kind) (drop (nat_abs e.disp) buffer) (omega (arith, room, length-drop (nat_abs e.disp) buffer))
+
+pub packed_has_total : PackedHasTotal
+packed_has_total rep [] buffer inside = refl
+packed_has_total rep (e ∷ es) buffer inside =
+    let parts = both_true (lies_inside (length buffer) e) (are_inside (length buffer) es) inside in
+    let here = length-image rep e.kind (bytes_at buffer e) (length-bytes_at buffer e (lies (length buffer) e parts.0)) in
+    let rest = packed_has_total rep es buffer parts.1 in
+    omega (arith, length-append (image rep e.kind (bytes_at buffer e)) (packed rep es buffer), here, rest, total-cons rep e es)
 
 -- the first of the elements that are set, and what is left of the images
 abbrev first_image : Rep → Entry → List ℕ → List ℕ

@@ -13,7 +13,7 @@ use Rattle.dt_map.specs.Placing.{place}
 use Rattle.dt_map.specs.Constructors.{copies_at}
 use Rattle.dt_map.specs.Elements.{elements, are_inside, IsByteOf, Overlaps}
 use Rattle.dt_map.specs.Limits.{Fits}
-use Rattle.dt_map.specs.Packed.{total}
+use Rattle.dt_map.specs.Packed.{packed, total}
 use Rattle.dt_map.specs.Setting.{done, set_each}
 use Rattle.dt_map.specs.Summary.{summary_of, no_summary, shifted, joined, copied, bounds_from}
 use Rattle.dt_map.specs.Span.{reach_of, stretched}
@@ -96,6 +96,11 @@ DoneIsGreatest =
     (rep : Rep) (es : List Entry) (n : ℕ) → (done rep es n ≤ length es)
     × (total rep (take (done rep es n) es) ≤ n)
     × ((k : ℕ) → k ≤ length es → total rep (take k es) ≤ n → k ≤ done rep es n)
+
+-- elements inside a buffer have as many packed bytes as their total says
+abbrev pub PackedHasTotal : Type 0
+PackedHasTotal =
+    (rep : Rep) (es : List Entry) (buffer : List ℕ) → IsTrue (are_inside (length buffer) es) → length (packed rep es buffer) ≡ total rep es
 
 -- the image of element i, where images stand one after another
 abbrev pub image_at : Rep → List Entry → ℕ → Entry → List ℕ → List ℕ

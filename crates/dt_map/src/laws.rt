@@ -1,5 +1,5 @@
 //! Laws of bounds, placing and setting, stated over their definitions. The functions do nothing.
-ghost use Rattle.dt_map.specs.Laws.{PaddingIsLeast, NaturalIsLeast, BoundsFromSummary, SummaryOfNone, SummaryOfShifted, SummaryOfJoined, SummaryOfCopies, ReachOfEven, ReachOfSums, InRows, PlacingOfPlacing, ElementsArePlaced, ElementsOfMore, TotalOfElements, DoneIsGreatest, SettingKeepsTheRest, SettingSetsEach, BoundsAreInRange};
+ghost use Rattle.dt_map.specs.Laws.{PaddingIsLeast, NaturalIsLeast, BoundsFromSummary, SummaryOfNone, SummaryOfShifted, SummaryOfJoined, SummaryOfCopies, ReachOfEven, ReachOfSums, InRows, PlacingOfPlacing, ElementsArePlaced, ElementsOfMore, TotalOfElements, DoneIsGreatest, PackedHasTotal, SettingKeepsTheRest, SettingSetsEach, BoundsAreInRange};
 
 /// The padding makes a number a multiple of another, and no lesser one does.
 pub fn padding_is_least()
@@ -76,6 +76,11 @@ pub fn total_of_elements()
 /// `done` is the greatest number of leading elements whose packed bytes are at most so many.
 pub fn done_is_greatest()
     ensures { DoneIsGreatest }
+{}
+
+/// Elements inside a buffer have as many packed bytes as their total says.
+pub fn packed_has_total()
+    ensures { PackedHasTotal }
 {}
 
 /// Setting elements keeps the buffer's length and each byte that is no element's.
