@@ -6,6 +6,8 @@ use Rattle.dt_kinds.specs.Image.{image, restore}
 use Rattle.dt_map.specs.declared.typemap.Entry.{Entry}
 use Rattle.dt_map.specs.Typemap.{Marked}
 use Rattle.dt_map.specs.Bounds.{bounds_of}
+use Rattle.dt_map.specs.Constructors.{copies_at}
+use Rattle.dt_map.specs.Elements.{elements}
 use Rattle.dt_map.specs.Placing.{place}
 use Rattle.dt_map.specs.Counts.{received_elements, received_copies}
 use Rattle.dt_map.specs.Setting.{set}
@@ -36,6 +38,15 @@ rounded_from_below = refl
 marks_win : bounds_of (place ((pos 0, record { entries = int_at (pos 0) ∷ []; marks = Some (record { lb = pos 0; ub = pos 4 }) }) ∷ (pos 100, int) ∷ []))
     ≡ record { size = 8; ext_size = 8; elements = 2; align = 4; true_lb = pos 0; true_ub = pos 104; lb = pos 0; ub = pos 4 }
 marks_win = refl
+
+-- a column of a matrix of integers: four places 16 bytes apart, and the marks of the whole matrix
+column : bounds_of (record { entries = (copies_at (pos 4 ∷ pos 20 ∷ pos 36 ∷ pos 52 ∷ []) int).entries; marks = Some (record { lb = pos 0; ub = pos 64 }) })
+    ≡ record { size = 16; ext_size = 16; elements = 4; align = 4; true_lb = pos 4; true_ub = pos 56; lb = pos 0; ub = pos 64 }
+column = refl
+
+-- a stride down and an operation on two copies
+stepped_down : elements (copies_at (pos 0 ∷ negsuc 3 ∷ []) int) 2 (pos 4) ≡ int_at (pos 4) ∷ int_at (pos 0) ∷ int_at (pos 12) ∷ int_at (pos 8) ∷ []
+stepped_down = refl
 
 -- no entries, without marks and with them
 nothing_held : bounds_of empty ≡ record { size = 0; ext_size = 0; elements = 0; align = 1; true_lb = pos 0; true_ub = pos 0; lb = pos 0; ub = pos 0 }
