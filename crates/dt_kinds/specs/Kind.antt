@@ -11,7 +11,8 @@ pub record Row : Type 0 where
   pub external : ℕ
   pub signed : Bool
 
--- the kind table: names and external sizes are those of MPI 4.1, sections 3.2.2 and 14.5.2; native sizes are this project's profile
+-- the kind table: names and external sizes are those of MPI 4.1, sections 3.2.2 and 14.5.2; native sizes, and that MPI_CHAR has a
+-- sign, are this project's profile
 abbrev pub row_of : Kind → Row
 row_of Byte = record { name = codes "MPI_BYTE"; native = 1; external = 1; signed = false }
 row_of Char = record { name = codes "MPI_CHAR"; native = 1; external = 1; signed = true }
@@ -37,7 +38,7 @@ row_of Aint = record { name = codes "MPI_AINT"; native = 8; external = 8; signed
 row_of Count = record { name = codes "MPI_COUNT"; native = 8; external = 8; signed = true }
 row_of Offset = record { name = codes "MPI_OFFSET"; native = 8; external = 8; signed = true }
 
--- the bytes of an element in memory, which are its alignment too
+-- the bytes of an element in memory, which are its alignment too (this project's profile)
 abbrev pub native_size : Kind → ℕ
 native_size kind = (row_of kind).native
 

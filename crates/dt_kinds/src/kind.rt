@@ -49,6 +49,7 @@ pub enum KindFault {
     Unknown,
 }
 
+/// All kinds, in the order of their numbers.
 const KINDS: [Kind; 23] = [
     Kind::Byte,
     Kind::Char,
@@ -75,6 +76,7 @@ const KINDS: [Kind; 23] = [
     Kind::Offset,
 ];
 
+/// The names of MPI 4.1, sections 3.2.2 and 6.9.4, that this library leaves out.
 const LEFT_OUT: [&str; 22] = [
     "MPI_FLOAT",
     "MPI_DOUBLE",
@@ -102,6 +104,7 @@ const LEFT_OUT: [&str; 22] = [
 
 impl Kind {
     /// The kind that a word names. `MPI_LONG_LONG_INT` is another name of `MPI_LONG_LONG` (MPI 4.1, section 3.2.2).
+    /// `Unsupported` for a name that this library leaves out, `Unknown` for any other word.
     pub fn of_name(word: &[u8]) -> Result<Kind, KindFault>
         ensures { result ≡ kind_of word.now }
     {
@@ -114,7 +117,7 @@ impl Kind {
         first_named(word, &KINDS).ok_or(KindFault::Unknown)
     }
 
-    /// The bytes of an element in memory, which are its alignment too.
+    /// The bytes of an element in memory, which are its alignment too: 1, 2, 4 or 8.
     pub fn size(self) -> u32
         ensures { result ≡ native_size self }
     {
@@ -138,7 +141,7 @@ impl Kind {
         }
     }
 
-    /// Whether the kind's values have a sign.
+    /// Whether the kind's values have a sign; those of `MPI_CHAR` do.
     pub fn signed(self) -> bool
         ensures { result ≡ is_signed self }
     {
@@ -152,7 +155,7 @@ impl Kind {
         }
     }
 
-    /// The name of the MPI datatype.
+    /// The name of the MPI datatype, such as `MPI_INT`.
     pub fn name(self) -> &'static str
         ensures { result.now ≡ name_of self }
     {

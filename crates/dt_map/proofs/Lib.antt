@@ -1,4 +1,5 @@
 pub mod Copies
+pub mod Examples
 pub mod Extremes
 pub mod Leading
 pub mod Offsets

@@ -11,27 +11,21 @@ use Rattle.dt_map.specs.declared.typemap.Marks.{Marks}
 use Rattle.dt_map.specs.Numbers.{below}
 use Rattle.dt_map.specs.Typemap.{Marked, shift, shift_entry, shift_marks}
 use Rattle.dt_map.specs.Placing.{joined_marks, placed_marks, place}
-use Rattle.dt_map.specs.Summary.{reach_of}
+use Rattle.dt_map.specs.Span.{reach_of, point}
 use Rattle.dt_map.specs.Laws.{ReachOfEven, ReachOfSums, sums, InRows, PlacingOfPlacing, further}
-use Rattle.dt_map.proofs.Summaries.{both, stretched_more, joined_marks_assoc, shift_marks-joined, shift_marks-shift_marks, placed_marks-append}
-
-pub reach_of-append : (xs ys : List ℤ) → reach_of (xs ++ ys) ≡ joined_marks (reach_of xs) (reach_of ys)
-reach_of-append [] ys = refl
-reach_of-append (x ∷ xs) ys =
-    let here : Option Marks = Some (record { lb = x; ub = x }) in
-    ap (joined_marks here) (reach_of-append xs ys) ∙ sym (joined_marks_assoc here (reach_of xs) (reach_of ys))
+use Rattle.dt_map.proofs.Summaries.{both, stretched_more, spans-append, shift_marks-joined, shift_marks-shift_marks, placed_marks-append}
 
 -- offsets x bytes further on
 pub reach_of-further : (x : ℤ) (xs : List ℤ) → reach_of (map (λ y. y +ℤ x) xs) ≡ shift_marks x (reach_of xs)
 reach_of-further x [] = refl
 reach_of-further x (y ∷ ys) =
-    let here : Option Marks = Some (record { lb = y; ub = y }) in
+    let here : Option Marks = point y in
     ap (joined_marks (shift_marks x here)) (reach_of-further x ys) ∙ sym (shift_marks-joined x here (reach_of ys))
 
 pub reach_of_sums : ReachOfSums
 reach_of_sums [] ys = refl
 reach_of_sums (x ∷ xs) ys =
-    reach_of-append (map (λ y. y +ℤ x) ys) (sums xs ys)
+    spans-append point (map (λ y. y +ℤ x) ys) (sums xs ys)
     ∙ (ap (λ r. joined_marks r (reach_of (sums xs ys))) (reach_of-further x ys)
     ∙ (ap (joined_marks (shift_marks x (reach_of ys))) (reach_of_sums xs ys) ∙ stretched_more x (reach_of xs) (reach_of ys)))
 
@@ -102,7 +96,7 @@ reach_of_even first step zero = first_alone first step
 reach_of_even first step (suc n) =
     let at : ℕ → ℤ = λ i. first +ℤ (pos i *ℤ step) in
     ap reach_of (map-append at (below (suc n)) (suc n ∷ []))
-    ∙ (reach_of-append (map at (below (suc n))) (at (suc n) ∷ [])
+    ∙ (spans-append point (map at (below (suc n))) (at (suc n) ∷ [])
     ∙ (ap (λ r. joined_marks r (reach_of (at (suc n) ∷ []))) (reach_of_even first step n) ∙ even_more first step n))
 
 -- shifts

@@ -12,7 +12,8 @@ use Rattle.dt_map.specs.Bounds.{end_of, size_of, external_size_of, alignment, tr
 use Rattle.dt_map.specs.Numbers.{lesser, greater, least, greatest}
 use Rattle.dt_map.specs.Placing.{joined_marks, placed_marks}
 use Rattle.dt_map.specs.Constructors.{copies_at}
-use Rattle.dt_map.specs.Summary.{Summary, summary_of, span_of, reach_of, stretched, shifted, joined, copied, copied_align, lb_or_zero, ub_or_zero, lb_from, ub_from}
+use Rattle.dt_map.specs.Summary.{Summary, summary_of, shifted, joined, copied, copied_align, lb_or_zero, ub_or_zero, lb_from, ub_from}
+use Rattle.dt_map.specs.Span.{spans, span_of, reach_of, stretched, point, entry_span}
 use Rattle.dt_map.specs.Laws.{BoundsFromSummary, SummaryOfNone, SummaryOfShifted, SummaryOfJoined, SummaryOfCopies}
 use Rattle.dt_map.proofs.Extremes.{alignment-pos, alignment-append}
 
@@ -40,7 +41,7 @@ shift_marks-shift_marks x y None = refl
 shift_marks-shift_marks x y (Some a) = both _ _ _ _ (omega (arith, ints)) (omega (arith, ints))
 
 pub stretched_more : (x : ℤ) (reach bounds : Option Marks) →
-    joined_marks (shift_marks x bounds) (stretched reach bounds) ≡ stretched (joined_marks (Some (record { lb = x; ub = x })) reach) bounds
+    joined_marks (shift_marks x bounds) (stretched reach bounds) ≡ stretched (joined_marks (point x) reach) bounds
 stretched_more x None None = refl
 stretched_more x (Some r) None = refl
 stretched_more x None (Some b) = refl
@@ -69,21 +70,19 @@ pub alignment-shift : (x : ℤ) (es : List Entry) → alignment (shift x es) ≡
 alignment-shift x [] = refl
 alignment-shift x (e ∷ es) = ap (max (native_size e.kind)) (alignment-shift x es)
 
-entry_further : (x : ℤ) (e : Entry) → Some (let m : Marks = record { lb = e.disp +ℤ x; ub = end_of (shift_entry x e) } in m) ≡ shift_marks x (Some (record { lb = e.disp; ub = end_of e }))
+entry_further : (x : ℤ) (e : Entry) → Some (let m : Marks = record { lb = e.disp +ℤ x; ub = end_of (shift_entry x e) } in m) ≡ shift_marks x (entry_span e)
 entry_further x e = both _ _ _ _ refl (omega (arith, ints))
 
 pub span_of-shift : (x : ℤ) (es : List Entry) → span_of (shift x es) ≡ shift_marks x (span_of es)
 span_of-shift x [] = refl
 span_of-shift x (e ∷ es) =
-    let here : Option Marks = Some (record { lb = e.disp; ub = end_of e }) in
+    let here : Option Marks = entry_span e in
     ap (λ s. joined_marks s (span_of (shift x es))) (entry_further x e)
     ∙ (ap (joined_marks (shift_marks x here)) (span_of-shift x es) ∙ sym (shift_marks-joined x here (span_of es)))
 
-pub span_of-append : (xs ys : List Entry) → span_of (xs ++ ys) ≡ joined_marks (span_of xs) (span_of ys)
-span_of-append [] ys = refl
-span_of-append (e ∷ xs) ys =
-    let here : Option Marks = Some (record { lb = e.disp; ub = end_of e }) in
-    ap (joined_marks here) (span_of-append xs ys) ∙ sym (joined_marks_assoc here (span_of xs) (span_of ys))
+pub spans-append : {X : Type 0} (f : X → Option Marks) (xs ys : List X) → spans f (xs ++ ys) ≡ joined_marks (spans f xs) (spans f ys)
+spans-append f [] ys = refl
+spans-append f (x ∷ xs) ys = ap (joined_marks (f x)) (spans-append f xs ys) ∙ sym (joined_marks_assoc (f x) (spans f xs) (spans f ys))
 
 pub placed_marks-append : (ms ns : List (ℤ × Marked)) → placed_marks (ms ++ ns) ≡ joined_marks (placed_marks ms) (placed_marks ns)
 placed_marks-append [] ns = refl
@@ -125,7 +124,7 @@ summary_of_joined ms ns =
     (ap external_size_of parts ∙ sum_by-append (λ (e : Entry). external_size e.kind) before after)
     (ap length parts ∙ length-append before after)
     (ap alignment parts ∙ alignment-append before after)
-    (ap span_of parts ∙ span_of-append before after)
+    (ap span_of parts ∙ spans-append entry_span before after)
     (placed_marks-append ms ns)
 
 greater_align : (n align : ℕ) → 0 < align → max align (copied_align n align) ≡ align
@@ -134,7 +133,7 @@ greater_align (suc n) align positive = omega arith
 
 -- one copy more
 copied_more : (x : ℤ) (reach : Option Marks) (n : ℕ) (s : Summary) → 0 < s.align →
-    joined (shifted x s) (copied reach n s) ≡ copied (joined_marks (Some (record { lb = x; ub = x })) reach) (suc n) s
+    joined (shifted x s) (copied reach n s) ≡ copied (joined_marks (point x) reach) (suc n) s
 copied_more x reach n s positive =
     same_summary _ _ _ _ _ _ _ _ _ _ _ _
     (omega arith) (omega arith) (omega arith) (greater_align n s.align positive) (stretched_more x reach s.span) (stretched_more x reach s.marks)

@@ -1,5 +1,5 @@
 -- setting elements: which bytes change, and to what
-use Rattle.std.proofs.Common.{◌≡◌, ℕ, zero, suc, ◌+◌, ◌-◌, ◌≤◌, ◌<◌, ◌⊎◌, inl, inr, Bool, true, false, ◌&&◌, ℤ, pos, negsuc, ◌+ℤ◌, ◌≤ℤ◌, ◌<ℤ◌, int_le, nat_abs, List, [], ◌∷◌, ◌++◌, take, drop, length, get_or, reverse, replicate, slice_index_or, refl, sym, ap, subst, ◌∙◌, arith, length-append, length-drop, IsTrue}
+use Rattle.std.proofs.Common.{◌≡◌, ℕ, zero, suc, ◌+◌, ◌-◌, ◌≤◌, ◌<◌, inl, inr, Bool, true, false, ◌&&◌, ℤ, pos, negsuc, ◌+ℤ◌, ◌≤ℤ◌, ◌<ℤ◌, int_le, nat_abs, List, [], ◌∷◌, ◌++◌, take, drop, length, get_or, reverse, replicate, slice_index_or, refl, sym, ap, subst, ◌∙◌, arith, length-append, length-drop}
 use Rattle.std.proofs.lemmas.Bool.{cases_lt}
 use Rattle.std.proofs.lemmas.Int.{ints}
 use Rattle.std.proofs.lemmas.List.{length-take-le, drop-drop, length-reverse, length-replicate, get_or_append_left, get_or-append_right, get_or-take, get_or-drop}
@@ -10,14 +10,14 @@ use Rattle.dt_kinds.specs.declared.kind.Kind.{Kind}
 use Rattle.dt_kinds.specs.declared.kind.Rep.{Rep}
 use Rattle.dt_kinds.specs.declared.kind.Rep.TheVariants.{Native, External32}
 use Rattle.dt_kinds.specs.Kind.{native_size, external_size, packed_size}
-use Rattle.dt_kinds.specs.Image.{restore, filler}
+use Rattle.dt_kinds.specs.Image.{image, restore, filler}
 use Rattle.dt_kinds.proofs.Table.{external_is_no_larger}
 use Rattle.dt_map.specs.declared.typemap.Entry.{Entry}
 use Rattle.dt_map.specs.Bounds.{end_of}
 use Rattle.dt_map.specs.Elements.{lies_inside, are_inside, IsByteOf, Overlaps}
-use Rattle.dt_map.specs.Packed.{total}
+use Rattle.dt_map.specs.Packed.{bytes_at, packed, total}
 use Rattle.dt_map.specs.Setting.{written, set_one, set_each}
-use Rattle.dt_map.specs.Laws.{image_at, SettingKeepsTheRest, SettingSetsEach}
+use Rattle.dt_map.specs.Laws.{image_at, PackedHasTotal, SettingKeepsTheRest, SettingSetsEach}
 
 both_true : (a b : Bool) → (a && b) ≡ true → (a ≡ true) × (b ≡ true)
 both_true true true e = (refl, refl)
@@ -75,6 +75,24 @@ length-restore External32 kind packed e =
 total-cons : (rep : Rep) (e : Entry) (es : List Entry) → total rep (e ∷ es) ≡ packed_size rep e.kind + total rep es
 total-cons rep e es = sum_by-cons (λ (e : Entry). packed_size rep e.kind) e es
 
+-- what is packed
+length-image : (rep : Rep) (kind : Kind) (bytes : List ℕ) → length bytes ≡ native_size kind → length (image rep kind bytes) ≡ packed_size rep kind
+length-image Native kind bytes e = e
+length-image External32 kind bytes e = length-reverse (take (external_size kind) bytes) ∙ length-take-le (external_size kind) bytes (omega (arith, e, external_is_no_larger kind))
+
+length-bytes_at : (buffer : List ℕ) (e : Entry) → Lies (length buffer) e → length (bytes_at buffer e) ≡ native_size e.kind
+length-bytes_at buffer e h =
+    let room = h.ends in
+    length-take-le (native_size e.kind) (drop (nat_abs e.disp) buffer) (omega (arith, room, length-drop (nat_abs e.disp) buffer))
+
+pub packed_has_total : PackedHasTotal
+packed_has_total rep [] buffer inside = refl
+packed_has_total rep (e ∷ es) buffer inside =
+    let parts = both_true (lies_inside (length buffer) e) (are_inside (length buffer) es) inside in
+    let here = length-image rep e.kind (bytes_at buffer e) (length-bytes_at buffer e (lies (length buffer) e parts.0)) in
+    let rest = packed_has_total rep es buffer parts.1 in
+    omega (arith, length-append (image rep e.kind (bytes_at buffer e)) (packed rep es buffer), here, rest, total-cons rep e es)
+
 -- the first of the elements that are set, and what is left of the images
 abbrev first_image : Rep → Entry → List ℕ → List ℕ
 first_image rep e images = take (packed_size rep e.kind) images
@@ -117,11 +135,13 @@ one_keeps rep e es buffer images x h off =
     let bytes = h.bytes in
     let room = h.place.ends in
     elim (cases_lt x at) [
-      inl before ↦ written_before buffer at (first_bytes rep e images) x (omega (arith, bytes, room)) before
-    | inr from ↦
-      elim (cases_lt x (at + native_size e.kind)) [
-        inl to ↦ absurd (off_by e.disp at (native_size e.kind) x h.place.starts off from to)
-      | inr after ↦ written_after buffer at (first_bytes rep e images) x (omega (arith, bytes, room)) (omega (arith, bytes, after)) ] ]
+      | inl before ↦ written_before buffer at (first_bytes rep e images) x (omega (arith, bytes, room)) before
+      | inr from ↦
+          elim (cases_lt x (at + native_size e.kind)) [
+            | inl to ↦ absurd (off_by e.disp at (native_size e.kind) x h.place.starts off from to)
+            | inr after ↦ written_after buffer at (first_bytes rep e images) x (omega (arith, bytes, room)) (omega (arith, bytes, after))
+          ]
+    ]
 
 one_sets : (rep : Rep) (e : Entry) (es : List Entry) (buffer images : List ℕ) (x : ℕ) → First rep e es buffer images → IsByteOf (pos x) e →
     get_or (set_one rep e buffer (first_image rep e images)) x 0 ≡ get_or (first_bytes rep e images) (x - nat_abs e.disp) 0

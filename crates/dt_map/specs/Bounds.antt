@@ -18,12 +18,13 @@ size_of entries = sum_by (λ e. native_size e.kind) entries
 abbrev pub external_size_of : List Entry → ℕ
 external_size_of entries = sum_by (λ e. external_size e.kind) entries
 
--- the greatest alignment among the entries, 1 without entries
+-- the greatest alignment among the entries, 1 without entries (this project's profile)
 abbrev pub alignment : List Entry → ℕ
 alignment [] = 1
 alignment (e ∷ entries) = max (native_size e.kind) (alignment entries)
 
--- the true bounds (MPI 4.1, section 5.1.8): the least displacement and the greatest end, 0 without entries
+-- the true bounds (MPI 4.1, section 5.1.8): the least displacement and the greatest end; 0 without entries is
+-- this project's profile
 abbrev pub true_lb : List Entry → ℤ
 true_lb entries = unwrap_or (least (map (λ e. e.disp) entries)) (pos 0)
 
@@ -34,11 +35,11 @@ true_ub entries = unwrap_or (greatest (map end_of entries)) (pos 0)
 abbrev pub natural_end : ℤ → ℤ → ℕ → ℤ
 natural_end low high align = high +ℤ pos (padding (nat_abs (high -ℤ low)) align)
 
--- the upper bound that the entries have without marks
+-- the upper bound that the entries have without marks (law `natural_is_least`)
 abbrev pub natural_ub : List Entry → ℤ
 natural_ub entries = natural_end (true_lb entries) (true_ub entries) (alignment entries)
 
--- the bounds: the marks where there are marks
+-- the bounds: the marks where there are marks (MPI 4.1, section 5.1.6)
 abbrev pub lower_from : Option Marks → List Entry → ℤ
 lower_from None entries = true_lb entries
 lower_from (Some marks) entries = marks.lb

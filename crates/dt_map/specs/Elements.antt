@@ -14,7 +14,7 @@ copies entries extent count origin = flat_map (λ i. shift (origin +ℤ (pos i *
 abbrev pub elements : Marked → ℕ → ℤ → List Entry
 elements m count origin = copies m.entries (extent_of m) count origin
 
--- whether each byte of an element lies in a buffer of so many bytes
+-- whether each byte of an element lies in a buffer of so many bytes (MPI 4.1, section 5.1.11)
 abbrev pub lies_inside : ℕ → Entry → Bool
 lies_inside len e = int_le (pos 0) e.disp && int_le (end_of e) (pos len)
 
@@ -26,6 +26,6 @@ are_inside len es = list_all (lies_inside len) es
 abbrev pub IsByteOf : ℤ → Entry → Type 0
 IsByteOf x e = (e.disp ≤ℤ x) × (x <ℤ end_of e)
 
--- two different places of the list name elements with a common byte
+-- two different places of the list name elements with a common byte, as none may that are received (MPI 4.1, section 5.1.11)
 abbrev pub Overlaps : List Entry → Type 0
 Overlaps es = (i : ℕ) × (j : ℕ) × (x : ℤ) × (i < j) × (j < length es) × HoldsAt (IsByteOf x) es i × HoldsAt (IsByteOf x) es j

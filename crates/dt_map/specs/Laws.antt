@@ -13,9 +13,10 @@ use Rattle.dt_map.specs.Placing.{place}
 use Rattle.dt_map.specs.Constructors.{copies_at}
 use Rattle.dt_map.specs.Elements.{elements, are_inside, IsByteOf, Overlaps}
 use Rattle.dt_map.specs.Limits.{Fits}
-use Rattle.dt_map.specs.Packed.{total}
+use Rattle.dt_map.specs.Packed.{packed, total}
 use Rattle.dt_map.specs.Setting.{done, set_each}
-use Rattle.dt_map.specs.Summary.{summary_of, no_summary, shifted, joined, copied, reach_of, stretched, bounds_from}
+use Rattle.dt_map.specs.Summary.{summary_of, no_summary, shifted, joined, copied, bounds_from}
+use Rattle.dt_map.specs.Span.{reach_of, stretched}
 
 -- the padding makes a number a multiple, and no lesser one does
 abbrev pub PaddingIsLeast : Type 0
@@ -96,6 +97,11 @@ DoneIsGreatest =
     × (total rep (take (done rep es n) es) ≤ n)
     × ((k : ℕ) → k ≤ length es → total rep (take k es) ≤ n → k ≤ done rep es n)
 
+-- elements inside a buffer have as many packed bytes as their total says
+abbrev pub PackedHasTotal : Type 0
+PackedHasTotal =
+    (rep : Rep) (es : List Entry) (buffer : List ℕ) → IsTrue (are_inside (length buffer) es) → length (packed rep es buffer) ≡ total rep es
+
 -- the image of element i, where images stand one after another
 abbrev pub image_at : Rep → List Entry → ℕ → Entry → List ℕ → List ℕ
 image_at rep es i e images = take (packed_size rep e.kind) (drop (total rep (take i es)) images)
@@ -112,7 +118,7 @@ abbrev pub SettingSetsEach : Type 0
 SettingSetsEach =
     (rep : Rep) (es : List Entry) (buffer images : List ℕ) → IsTrue (are_inside (length buffer) es) → total rep es ≤ length images → ¬ Overlaps es
     → (i x : ℕ) (d : Entry) → i < length es → let e = slice_index_or es i d in
-      IsByteOf (pos x) e → slice_index (set_each rep es buffer images) x ≡ slice_index (restore rep e.kind (image_at rep es i e images)) (x - nat_abs e.disp)
+    IsByteOf (pos x) e → slice_index (set_each rep es buffer images) x ≡ slice_index (restore rep e.kind (image_at rep es i e images)) (x - nat_abs e.disp)
 
 -- the bounds of a typemap in range are in range, but that the natural upper bound may pass the limit by at most 7
 abbrev pub BoundsAreInRange : Type 0

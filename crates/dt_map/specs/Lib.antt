@@ -8,5 +8,6 @@ pub mod Numbers
 pub mod Packed
 pub mod Placing
 pub mod Setting
+pub mod Span
 pub mod Summary
 pub mod Typemap

@@ -28,6 +28,6 @@ abbrev pub greatest : List ℤ → Option ℤ
 greatest [] = None
 greatest (x ∷ xs) = greater (Some x) (greatest xs)
 
--- the least number that makes n a multiple of a when it is added
+-- the least number that makes n a multiple of a when it is added (law `padding_is_least`)
 abbrev pub padding : ℕ → ℕ → ℕ
 padding n a = (a - n % a) % a

@@ -4,7 +4,7 @@ use Rattle.std.specs.Int.{int_min, int_max}
 use Rattle.dt_map.specs.declared.typemap.Marks.{Marks}
 use Rattle.dt_map.specs.Typemap.{Marked, shift, shift_marks}
 
--- the marks around two pairs of marks, where either may be missing
+-- the marks around two pairs of marks, where either may be missing (MPI 4.1, section 5.1.6)
 abbrev pub joined_marks : Option Marks → Option Marks → Option Marks
 joined_marks None b = b
 joined_marks (Some a) None = Some a
@@ -15,6 +15,6 @@ abbrev pub placed_marks : List (ℤ × Marked) → Option Marks
 placed_marks [] = None
 placed_marks (member ∷ members) = joined_marks (shift_marks member.0 member.1.marks) (placed_marks members)
 
--- typemaps placed at offsets, one after another
+-- typemaps placed at offsets, one after another (MPI 4.1, section 5.1.2)
 abbrev pub place : List (ℤ × Marked) → Marked
 place members = record { entries = flat_map (λ member. shift member.0 member.1.entries) members; marks = placed_marks members }

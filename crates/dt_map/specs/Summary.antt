@@ -1,26 +1,10 @@
-use Rattle.std.specs.Prelude.{Option, Some, None, ℕ, zero, suc, ◌+◌, ◌*◌, max, ◌+ℤ◌, ℤ, pos, List, [], ◌∷◌, length}
-use Rattle.dt_map.specs.declared.typemap.Entry.{Entry}
+use Rattle.std.specs.Prelude.{Option, Some, None, ℕ, zero, suc, ◌+◌, ◌*◌, max, ℤ, pos, length}
 use Rattle.dt_map.specs.declared.typemap.Marks.{Marks}
 use Rattle.dt_map.specs.declared.typemap.Bounds.{Bounds}
 use Rattle.dt_map.specs.Typemap.{Marked, shift_marks}
-use Rattle.dt_map.specs.Bounds.{end_of, size_of, external_size_of, alignment, natural_end}
+use Rattle.dt_map.specs.Bounds.{size_of, external_size_of, alignment, natural_end}
 use Rattle.dt_map.specs.Placing.{joined_marks}
-
--- the least displacement and the greatest end, none without entries
-abbrev pub span_of : List Entry → Option Marks
-span_of [] = None
-span_of (e ∷ entries) = joined_marks (Some (record { lb = e.disp; ub = end_of e })) (span_of entries)
-
--- the least and the greatest of some offsets, none without offsets
-abbrev pub reach_of : List ℤ → Option Marks
-reach_of [] = None
-reach_of (x ∷ offsets) = joined_marks (Some (record { lb = x; ub = x })) (reach_of offsets)
-
--- where bounds come to, over copies at offsets of this reach
-abbrev pub stretched : Option Marks → Option Marks → Option Marks
-stretched None bounds = None
-stretched (Some reach) None = None
-stretched (Some reach) (Some bounds) = Some (record { lb = bounds.lb +ℤ reach.lb; ub = bounds.ub +ℤ reach.ub })
+use Rattle.dt_map.specs.Span.{span_of, stretched}
 
 -- all that the bounds of a marked typemap are made from, in a form that copies and joins by arithmetic
 pub record Summary : Type 0 where

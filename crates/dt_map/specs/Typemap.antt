@@ -2,7 +2,7 @@ use Rattle.std.specs.Prelude.{Option, Some, None, ◌+ℤ◌, ℤ, List, map}
 use Rattle.dt_map.specs.declared.typemap.Entry.{Entry}
 use Rattle.dt_map.specs.declared.typemap.Marks.{Marks}
 
--- a typemap (MPI 4.1, section 5.1) with its marks, where it has them
+-- a typemap (MPI 4.1, section 5.1) with its lower and upper marks, where it has them (section 5.1.6)
 pub record Marked : Type 0 where
   pub entries : List Entry
   pub marks : Option Marks

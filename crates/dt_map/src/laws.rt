@@ -1,5 +1,5 @@
 //! Laws of bounds, placing and setting, stated over their definitions. The functions do nothing.
-ghost use Rattle.dt_map.specs.Laws.{PaddingIsLeast, NaturalIsLeast, BoundsFromSummary, SummaryOfNone, SummaryOfShifted, SummaryOfJoined, SummaryOfCopies, ReachOfEven, ReachOfSums, InRows, PlacingOfPlacing, ElementsArePlaced, ElementsOfMore, TotalOfElements, DoneIsGreatest, SettingKeepsTheRest, SettingSetsEach, BoundsAreInRange};
+ghost use Rattle.dt_map.specs.Laws.{PaddingIsLeast, NaturalIsLeast, BoundsFromSummary, SummaryOfNone, SummaryOfShifted, SummaryOfJoined, SummaryOfCopies, ReachOfEven, ReachOfSums, InRows, PlacingOfPlacing, ElementsArePlaced, ElementsOfMore, TotalOfElements, DoneIsGreatest, PackedHasTotal, SettingKeepsTheRest, SettingSetsEach, BoundsAreInRange};
 
 /// The padding makes a number a multiple of another, and no lesser one does.
 pub fn padding_is_least()
@@ -78,20 +78,22 @@ pub fn done_is_greatest()
     ensures { DoneIsGreatest }
 {}
 
+/// Elements inside a buffer have as many packed bytes as their total says.
+pub fn packed_has_total()
+    ensures { PackedHasTotal }
+{}
+
 /// Setting elements keeps the buffer's length and each byte that is no element's.
 pub fn setting_keeps_the_rest()
     ensures { SettingKeepsTheRest }
-{
-}
+{}
 
 /// Setting elements that don't overlap gives each byte of one of them what its image stands for.
 pub fn setting_sets_each()
     ensures { SettingSetsEach }
-{
-}
+{}
 
 /// The bounds of a typemap in range are in range, but that the natural upper bound may pass the limit by at most 7.
 pub fn bounds_are_in_range()
     ensures { BoundsAreInRange }
-{
-}
+{}
