@@ -1,0 +1,40 @@
+use Rattle.std.specs.Prelude.{Option, ℕ, ◌≤◌, List}
+use Rattle.dt_kinds.specs.Displacement.{FitsDisp}
+use Rattle.dt_map.specs.declared.typemap.Entry.{Entry}
+use Rattle.dt_map.specs.declared.typemap.Marks.{Marks}
+use Rattle.dt_map.specs.Bounds.{lower, upper, true_lb, true_ub, size_of}
+use Rattle.dt_map.specs.Typemap.{Marked}
+use Rattle.dt_type.specs.declared.datatype.Seen.{Seen, out-Seen}
+use Rattle.dt_type.specs.declared.datatype.Seen.TheOpen.{Seen-F}
+use Rattle.dt_type.specs.declared.form.FormOf.{FormOf}
+
+-- a datatype with its old types left closed
+abbrev pub Layer : Type 0
+Layer = Seen-F Seen
+
+-- a datatype is a marked typemap with its form, its weight and its depth
+abbrev pub entries_of : Seen → List Entry
+entries_of t = (out-Seen t).entries
+
+abbrev pub marks_of : Seen → Option Marks
+marks_of t = (out-Seen t).marks
+
+abbrev pub typemap_of : Seen → Marked
+typemap_of t = record { entries = entries_of t; marks = marks_of t }
+
+abbrev pub form_of : Seen → FormOf Seen
+form_of t = (out-Seen t).form
+
+abbrev pub weight_of : Seen → ℕ
+weight_of t = (out-Seen t).weight
+
+abbrev pub depth_of : Seen → ℕ
+depth_of t = (out-Seen t).depth
+
+-- whether the bounds and the size of a typemap are in range
+pub record IsInRange (m : Marked) : Type 0 where
+  pub lb : FitsDisp (lower m)
+  pub ub : FitsDisp (upper m)
+  pub true_lb : FitsDisp (true_lb m.entries)
+  pub true_ub : FitsDisp (true_ub m.entries)
+  pub size : size_of m.entries ≤ 1152921504606846976

@@ -1,0 +1,12 @@
+pub mod Arguments
+pub mod Arrays
+pub mod Conditions
+pub mod Constructors
+pub mod Datatype
+pub mod Falls
+pub mod Form
+pub mod Shape
+pub mod Sound
+pub use Rattle.dt_map.specs.Bounds
+pub use Rattle.dt_map.specs.Placing
+pub use Rattle.dt_map.specs.Typemap
