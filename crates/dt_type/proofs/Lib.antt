@@ -1,2 +1,4 @@
+pub mod Counted
+pub mod Examples
 pub mod OneEntry
 pub mod Shown

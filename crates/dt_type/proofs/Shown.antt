@@ -10,6 +10,7 @@ use Rattle.dt_type.specs.Arguments.{takes_arguments}
 use Rattle.dt_type.specs.Conditions.{IsShapeFor}
 use Rattle.dt_type.specs.Datatype.{Layer, typemap_of, form_of, IsInRange}
 use Rattle.dt_type.specs.Form.{result_of, map_by, weight_by}
+use Rattle.dt_type.proofs.Counted.{sound_elements, sound_external, sound_alignment}
 use Rattle.dt_type.specs.Sound.{Sound, layer_of, view_of, map_of}
 
 pub shown : (n : Node) (t : Seen) → view_of n ≡ t → out-Seen t ≡ layer_of n
@@ -44,3 +45,6 @@ shown_arguments n t e sound = subst (λ (f : FormOf Seen). IsTrue (takes_argumen
 
 pub shown_shape : (n : Node) (t : Seen) → view_of n ≡ t → Sound n → IsShapeFor n.shape (form_of t)
 shown_shape n t e sound = subst (IsShapeFor n.shape) (sym (shown_form n t e)) sound.shape
+
+-- what the readers' clauses rest on
+pub ruleset readers = (shown, shown_bounds, shown_range, shown_given, shown_arguments, shown_shape, given, sound_elements, sound_external, sound_alignment)

@@ -7,6 +7,7 @@ ghost use Rattle.dt_type.specs.Conditions.{IsShapeFor};
 ghost use Rattle.dt_type.specs.Datatype.{typemap_of, entries_of, marks_of, form_of, weight_of, depth_of, IsInRange};
 ghost use Rattle.dt_type.specs.Form.{result_of, map_by};
 ghost use Rattle.dt_type.specs.Shape.{placed_by};
+ghost use Rattle.dt_type.specs.Sound.{Sound};
 
 use crate::form::{Form, FormOf};
 use crate::shape::{Shape, ShapeOf};
@@ -36,13 +37,13 @@ pub struct Datatype {
 
 #[cycle(datatype)]
 #[derive(Drop)]
-struct Node {
-    shape: Shape,
-    form: Form,
-    marks: Option<Marks>,
-    bounds: Bounds,
-    weight: u64,
-    depth: u32,
+pub(crate) struct Node {
+    pub(crate) shape: Shape,
+    pub(crate) form: Form,
+    pub(crate) marks: Option<Marks>,
+    pub(crate) bounds: Bounds,
+    pub(crate) weight: u64,
+    pub(crate) depth: u32,
 }
 
 impl Model for Datatype {
@@ -67,7 +68,7 @@ impl Model for Datatype {
     ghost size_decreases = { λ a h. falls a.node.value h };
 }
 
-#[tactic(auto, using(crate::proofs::Shown::shown, crate::proofs::Shown::shown_bounds, crate::proofs::Shown::shown_range, crate::proofs::Shown::shown_given, crate::proofs::Shown::shown_arguments, crate::proofs::Shown::shown_shape,))]
+#[tactic(auto, using(crate::proofs::Shown::readers))]
 impl Datatype {
     /// The basic datatype of a kind. Its form is the kind.
     pub fn named(alloc: Global, kind: Kind) -> Result<Datatype, NoMemory>
@@ -81,6 +82,14 @@ impl Datatype {
             weight: 1,
             depth: 1,
         };
+        Datatype::of_node(alloc, node)
+    }
+
+    /// The datatype of a node, to be shared from now on.
+    pub(crate) fn of_node(alloc: Global, node: Node) -> Result<Datatype, NoMemory>
+        requires { Sound node }
+        ensures { IfOk result (λ t. t ≡ result_of node.form) }
+    {
         match Rc::new(alloc, node) {
             Ok(node) => Ok(Datatype { node }),
             Err(_) => Err(NoMemory),
@@ -101,6 +110,9 @@ impl Datatype {
     pub fn bounds(&self) -> Bounds
         ensures value { result ≡ bounds_of (typemap_of self.now) }
         ensures in_range { IsInRange (typemap_of self.now) }
+        ensures elements { result.elements ≤ result.size }
+        ensures external { result.ext_size ≤ result.size }
+        ensures alignment { (1 ≤ result.align) × (result.align ≤ 8) }
     {
         self.node.bounds
     }
