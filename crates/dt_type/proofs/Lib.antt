@@ -1,4 +1,10 @@
 pub mod Counted
 pub mod Examples
+pub mod InRows
+pub mod Near
 pub mod OneEntry
+pub mod Products
+pub mod Rows
 pub mod Shown
+pub mod Spans
+pub mod TurnSpans

@@ -7,6 +7,7 @@ pub mod Falls
 pub mod Form
 pub mod Shape
 pub mod Sound
+pub mod Span
 pub use Rattle.dt_map.specs.Bounds
 pub use Rattle.dt_map.specs.Placing
 pub use Rattle.dt_map.specs.Typemap

@@ -5,6 +5,7 @@ pub mod datatype;
 pub mod fault;
 pub mod form;
 pub mod shape;
+mod span;
 
 pub use datatype::{Datatype, Seen};
 pub use fault::CtorFault;
