@@ -4,6 +4,7 @@ pub mod InRows
 pub mod Near
 pub mod OneEntry
 pub mod Products
+pub mod Reaches
 pub mod Rows
 pub mod Shown
 pub mod Spans

@@ -1,5 +1,5 @@
 -- Spans of rows and turns stay within 128 bits.
-use Rattle.std.specs.Prelude.{◌≡◌, Option, Some, None, ℕ, zero, suc, ◌+◌, ◌*◌, ◌/◌, ◌%◌, ◌^◌, ◌<◌, ◌≤◌, ℤ, pos, ◌+ℤ◌, ◌*ℤ◌, nat_abs, List, [], ◌∷◌, ◌++◌, map}
+use Rattle.std.specs.Prelude.{◌≡◌, Option, Some, None, ℕ, zero, suc, ◌+◌, ◌*◌, ◌/◌, ◌%◌, ◌^◌, ◌<◌, ◌≤◌, ℤ, pos, ◌+ℤ◌, ◌*ℤ◌, nat_abs, List, [], ◌∷◌, ◌++◌, map, length, take, get_or}
 use Rattle.std.specs.List.{AllByRecursion}
 use Rattle.std.proofs.Common.{refl, sym, ap, subst, ◌∙◌, arith}
 use Rattle.std.proofs.lemmas.Int.{ints, clamps}
@@ -10,8 +10,8 @@ use Rattle.dt_map.specs.declared.typemap.Marks.{Marks}
 use Rattle.dt_map.specs.Numbers.{below}
 use Rattle.dt_map.specs.Placing.{joined_marks}
 use Rattle.dt_type.specs.declared.shape.Turns.{Turns}
-use Rattle.dt_type.specs.Conditions.{IsFactor, AreTurns}
-use Rattle.dt_type.specs.Shape.{row_offsets, turn_offset, turn_offsets}
+use Rattle.dt_type.specs.Conditions.{IsFactor, AreTurns, AreNested}
+use Rattle.dt_type.specs.Shape.{row_offsets, turn_offset, turn_offsets, grid_offsets}
 use Rattle.dt_type.specs.Span.{spans, point, reach_of, stretched, IsWithin, IsNear}
 use Rattle.dt_type.proofs.Products.{product_near}
 
@@ -89,3 +89,18 @@ outer_near t turns =
 
 pub inner_near : (t : Turns) → AreTurns t → IsNear (reach_of (row_offsets (pos 0) t.block t.step))
 inner_near t turns = let most = turns.most in row_near (pos 0) t.step t.block turns.step (omega (arith, ints))
+
+pub all_at : {X : Type 0} (P : X → Type 0) (xs : List X) (i : ℕ) (d : X) → AllByRecursion P xs → i < length xs → P (get_or xs i d)
+all_at P [] i d h lt = absurd (omega arith)
+all_at P (x ∷ xs) zero d h lt = h.0
+all_at P (x ∷ xs) (suc i) d h lt = all_at P xs i d h.1 (omega arith)
+
+zero_near : IsNear (point (pos 0))
+zero_near = (omega (arith, ints), omega (arith, ints))
+
+-- nested turns stay within 128 bits on the way to each next one
+pub grid_near : (turns : List Turns) → AreNested turns → (i : ℕ) → i < length turns → IsNear (reach_of (grid_offsets (take i turns)))
+grid_near [] nested i lt = absurd (omega arith)
+grid_near (t ∷ []) nested zero lt = zero_near
+grid_near (t ∷ []) nested (suc i) lt = absurd (omega arith)
+grid_near (t ∷ u ∷ turns) nested i lt = disps_near (grid_offsets (take i (t ∷ u ∷ turns))) (nested.1 i)

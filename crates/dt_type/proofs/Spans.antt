@@ -9,10 +9,10 @@ use Rattle.dt_map.specs.Placing.{joined_marks}
 use Rattle.dt_map.specs.Typemap.{shift_marks}
 use Rattle.dt_type.specs.Span.{spans, point, reach_of, stretched}
 
-abbrev some_span : ℤ → ℤ → Option Marks
+abbrev pub some_span : ℤ → ℤ → Option Marks
 some_span lb ub = Some (record { lb = lb; ub = ub })
 
-some_same : (a b c d : ℤ) → a ≡ b → c ≡ d → some_span a c ≡ some_span b d
+pub some_same : (a b c d : ℤ) → a ≡ b → c ≡ d → some_span a c ≡ some_span b d
 some_same a b c d e f = ap (λ x. some_span x c) e ∙ ap (λ x. some_span b x) f
 
 min_assoc : (a b c : ℤ) → int_min (int_min a b) c ≡ int_min a (int_min b c)

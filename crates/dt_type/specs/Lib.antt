@@ -5,6 +5,7 @@ pub mod Constructors
 pub mod Datatype
 pub mod Falls
 pub mod Form
+pub mod Reach
 pub mod Shape
 pub mod Sound
 pub mod Span
