@@ -1,4 +1,5 @@
 pub mod Counted
+pub mod Digests
 pub mod Examples
 pub mod InRows
 pub mod Near

@@ -3,6 +3,7 @@ pub mod Arrays
 pub mod Conditions
 pub mod Constructors
 pub mod Datatype
+pub mod Digest
 pub mod Falls
 pub mod Form
 pub mod Reach

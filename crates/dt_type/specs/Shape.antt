@@ -36,12 +36,16 @@ spot_offsets spots = flat_map (λ s. row_offsets s.first s.copies s.step) spots
 abbrev pub part_members : ShapePartOf Seen → List (ℤ × Marked)
 part_members p = map (λ x. (x, typemap_of p.old)) (row_offsets p.first p.copies p.step)
 
+-- the copies of each part in turn
+abbrev pub placed_parts : List (ShapePartOf Seen) → Marked
+placed_parts parts = place (flat_map part_members parts)
+
 -- the typemap that a shape places, with the marks that its copies bring along
 abbrev pub placed_by : ShapeOf Seen → Marked
 placed_by (One kind) = record { entries = (record { kind = kind; disp = pos 0 }) ∷ []; marks = None }
 placed_by (Grid turns old) = copies_at (grid_offsets turns) (typemap_of old)
 placed_by (Each spots old) = copies_at (spot_offsets spots) (typemap_of old)
-placed_by (Seq parts) = place (flat_map part_members parts)
+placed_by (Seq parts) = placed_parts parts
 
 -- what a cover makes of the marks
 abbrev pub covered : Cover → Marked → Marked

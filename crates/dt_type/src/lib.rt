@@ -5,6 +5,7 @@ pub mod datatype;
 pub mod fault;
 pub mod form;
 pub mod shape;
+mod digest;
 mod span;
 
 pub use datatype::{Datatype, Seen};
