@@ -1,27 +1,33 @@
 -- Digests of copies and of joined typemaps.
-use Rattle.std.specs.Prelude.{◌≡◌, Option, Some, None, ℕ, zero, suc, ◌+◌, ◌*◌, ◌-◌, ◌^◌, ◌<◌, ◌≤◌, ◌==◌, Bool, true, false, cond, min, max, ℤ, pos, ◌+ℤ◌, List, [], ◌∷◌, ◌++◌, map, length}
+use Rattle.std.specs.Prelude.{◌≡◌, Option, Some, None, ℕ, zero, suc, ◌+◌, ◌*◌, ◌-◌, ◌^◌, ◌<◌, ◌≤◌, ◌==◌, Bool, true, false, cond, min, max, ℤ, pos, ◌+ℤ◌, List, [], ◌∷◌, ◌++◌, map, length, take, get_or}
 use Rattle.std.specs.List.{flat_map, sum_by}
 use Rattle.std.proofs.Common.{refl, sym, ap, subst, ◌∙◌, arith, length-append}
 use Rattle.std.proofs.lemmas.Grind.{flat_map-append}
 use Rattle.std.proofs.lemmas.Bool.Decides.{nat_tests}
 use Rattle.std.proofs.lemmas.Int.{ints}
-use Rattle.std.proofs.lemmas.List.{length-map}
+use Rattle.std.proofs.lemmas.List.{length-map, append-nil, take_more}
 use Rattle.std.proofs.lemmas.List.Sums.{sum_by-cons, sum_by-append}
 use Rattle.dt_kinds.specs.declared.kind.Kind.{Kind}
 use Rattle.dt_kinds.specs.Kind.{native_size, external_size}
+use Rattle.dt_map.specs.declared.typemap.Bounds.{Bounds}
 use Rattle.dt_map.specs.declared.typemap.Entry.{Entry}
 use Rattle.dt_map.specs.declared.typemap.Marks.{Marks}
-use Rattle.dt_map.specs.Bounds.{size_of, external_size_of, alignment, end_of}
+use Rattle.dt_map.specs.Bounds.{size_of, external_size_of, alignment, end_of, bounds_of}
 use Rattle.dt_map.specs.Constructors.{copies_at}
 use Rattle.dt_map.specs.Placing.{joined_marks, placed_marks, place}
 use Rattle.dt_map.specs.Typemap.{Marked, shift, shift_entry, shift_marks}
+use Rattle.dt_type.specs.declared.datatype.Seen.{Seen}
+use Rattle.dt_type.specs.declared.shape.ShapePartOf.{ShapePartOf}
 use Rattle.dt_type.specs.declared.digest.Digest.{Digest}
 use Rattle.dt_type.specs.declared.span.Reach.{Reach}
-use Rattle.dt_type.specs.Digest.{digest_of, repeated, joined}
+use Rattle.dt_type.specs.Datatype.{typemap_of, IsInRange}
+use Rattle.dt_type.specs.Digest.{digest_of, repeated, joined, true_span}
 use Rattle.dt_type.specs.Reach.{capped, reach}
+use Rattle.dt_type.specs.Shape.{part_members, placed_parts, row_offsets}
 use Rattle.dt_type.specs.Span.{spans, entry_span, span_of, reach_of, stretched}
 use Rattle.dt_type.proofs.Counted.{least_alignment}
-use Rattle.dt_type.proofs.Reaches.{capped-add, capped-mul, capped-mul-left}
+use Rattle.dt_type.proofs.Reaches.{below_most, capped-add, capped-mul, capped-mul-left}
+use Rattle.dt_type.proofs.TrueSpans.{true_span_is}
 use Rattle.dt_type.proofs.Spans.{some_same, joined-assoc, spans-append, spans-map, spans-flat_map, spans-same, spans-shift, spans-copies}
 
 abbrev entries_at : List (ℤ × Marked) → List Entry
@@ -144,3 +150,29 @@ digest-append ms ns =
       (alignment-append (entries_at ms) (entries_at ns))
       (spans-append entry_span (entries_at ms) (entries_at ns))
       (marks-append ms ns)
+
+-- of a datatype, whose numbers are in range
+pub digest-type : (m : Marked) (b : Bounds) (s marks : Option Marks) → b ≡ bounds_of m → IsInRange m → b.elements ≤ b.size → b.ext_size ≤ b.size → s ≡ true_span b → marks ≡ m.marks
+    → digest_by b.size b.ext_size b.elements b.align s marks ≡ digest_of m
+digest-type m b s marks e range elements external span same =
+    let size = ap (λ (x : Bounds). x.size) e in
+    let ext = ap (λ (x : Bounds). x.ext_size) e in
+    let count = ap (λ (x : Bounds). x.elements) e in
+    let most = range.size in
+    same_digest _ _ _ _ _ _ _ _ _ _ _ _
+    (size ∙ sym (below_most (size_of m.entries) (omega arith)))
+    (ext ∙ sym (below_most (external_size_of m.entries) (omega arith)))
+    (count ∙ sym (below_most (length m.entries) (omega arith)))
+    (ap (λ (x : Bounds). x.align) e)
+    (span ∙ ap true_span e ∙ true_span_is m)
+    same
+
+-- one more part
+pub digest-part : (parts : List (ShapePartOf Seen)) (i : ℕ) (p d : ShapePartOf Seen) → i < length parts → p ≡ get_or parts i d
+    → digest_of (placed_parts (take (i + 1) parts))
+      ≡ joined (digest_of (placed_parts (take i parts))) (repeated (reach (row_offsets p.first p.copies p.step)) (digest_of (typemap_of p.old)))
+digest-part parts i p d lt e =
+    ap (λ ps. digest_of (placed_parts ps)) (take_more parts i d lt ∙ ap (λ q. take i parts ++ q ∷ []) (sym e))
+    ∙ ap (λ ms. digest_of (place ms)) (flat_map-append part_members (take i parts) (p ∷ []) ∙ ap (λ ms. flat_map part_members (take i parts) ++ ms) (append-nil (part_members p)))
+    ∙ digest-append (flat_map part_members (take i parts)) (part_members p)
+    ∙ ap (joined (digest_of (placed_parts (take i parts)))) (digest-copies (row_offsets p.first p.copies p.step) (typemap_of p.old))

@@ -1,6 +1,7 @@
 pub mod Counted
 pub mod Digests
 pub mod Examples
+pub mod GridNear
 pub mod InRows
 pub mod Near
 pub mod OneEntry
@@ -9,4 +10,5 @@ pub mod Reaches
 pub mod Rows
 pub mod Shown
 pub mod Spans
+pub mod TrueSpans
 pub mod TurnSpans

@@ -95,7 +95,7 @@ all_at P [] i d h lt = absurd (omega arith)
 all_at P (x ∷ xs) zero d h lt = h.0
 all_at P (x ∷ xs) (suc i) d h lt = all_at P xs i d h.1 (omega arith)
 
-zero_near : IsNear (point (pos 0))
+pub zero_near : IsNear (point (pos 0))
 zero_near = (omega (arith, ints), omega (arith, ints))
 
 -- nested turns stay within 128 bits on the way to each next one

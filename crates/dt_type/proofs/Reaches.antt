@@ -25,7 +25,7 @@ most = 2 ^ 64 - 1
 pub capped-add : (a b : ℕ) → capped (capped a + capped b) ≡ capped (a + b)
 capped-add a b = omega arith
 
-below_most : (n : ℕ) → n ≤ most → capped n ≡ n
+pub below_most : (n : ℕ) → n ≤ most → capped n ≡ n
 below_most n h = omega arith
 
 above_most : (n : ℕ) → most ≤ n → capped n ≡ most

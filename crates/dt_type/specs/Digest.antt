@@ -1,4 +1,6 @@
-use Rattle.std.specs.Prelude.{◌+◌, ◌*◌, ◌==◌, cond, max, length}
+use Rattle.std.specs.Prelude.{Option, Some, None, ◌+◌, ◌*◌, ◌==◌, cond, max, length}
+use Rattle.dt_map.specs.declared.typemap.Bounds.{Bounds}
+use Rattle.dt_map.specs.declared.typemap.Marks.{Marks}
 use Rattle.dt_map.specs.Bounds.{size_of, external_size_of, alignment}
 use Rattle.dt_map.specs.Placing.{joined_marks}
 use Rattle.dt_map.specs.Typemap.{Marked}
@@ -39,3 +41,7 @@ joined a b = record {
   span = joined_marks a.span b.span;
   marks = joined_marks a.marks b.marks;
 }
+
+-- the true bounds, where there is an entry
+abbrev pub true_span : Bounds → Option Marks
+true_span b = cond (b.elements == 0) None (Some (record { lb = b.true_lb; ub = b.true_ub }))

@@ -177,7 +177,7 @@ fn bounds_of_kind(kind: Kind) -> Bounds
 }
 
 /// The bytes of an element in external32.
-fn external_size_of(kind: Kind) -> u32
+pub(crate) fn external_size_of(kind: Kind) -> u32
     ensures { result ≡ external_size kind }
 {
     match kind {

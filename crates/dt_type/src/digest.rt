@@ -9,11 +9,11 @@ ghost use Rattle.dt_type.specs.Reach.{capped};
 ghost use Rattle.dt_type.specs.Shape.{placed_by, placed_parts};
 ghost use Rattle.dt_type.specs.Span.{IsNear};
 
-use crate::datatype::Datatype;
-use crate::shape::{Shape, ShapePart};
+use crate::datatype::{Datatype, external_size_of};
+use crate::shape::{Shape, ShapeOf, ShapePart};
 use crate::span::{self, Reach, Span, grid_reach, row_reach, spots_reach, stretched};
 use dt_kinds::Kind;
-use dt_map::Marks;
+use dt_map::{Bounds, Marks};
 
 /// Sizes and number of entries, each up to the greatest `u64`, the alignment, the span from the least displacement to the greatest
 /// end, and the marks.
@@ -59,11 +59,95 @@ pub(crate) fn joined(a: Digest, b: Digest) -> Digest
 }
 
 /// Marks as wide numbers.
-pub(crate) fn wide(marks: Marks) -> Span
+pub(crate) fn wide(marks: Option<Marks>) -> Option<Span>
     ensures { result ≡ marks }
 {
-    Span {
-        lb: i128::from(marks.lb),
-        ub: i128::from(marks.ub),
+    match marks {
+        None => None,
+        Some(marks) => Some(Span {
+            lb: i128::from(marks.lb),
+            ub: i128::from(marks.ub),
+        }),
+    }
+}
+
+/// The least displacement and the greatest end, where there is an entry.
+fn true_span(bounds: &Bounds) -> Option<Span>
+    ensures { result ≡ spec.true_span bounds.now }
+{
+    if bounds.elements == 0 {
+        return None;
+    }
+    Some(Span {
+        lb: i128::from(bounds.true_lb),
+        ub: i128::from(bounds.true_ub),
+    })
+}
+
+/// Of an old type, from the numbers that it keeps.
+pub(crate) fn of_type(old: &Datatype) -> Digest
+    ensures value { result ≡ digest_of (typemap_of old.now) }
+    ensures span { IsNear result.span }
+    ensures marks { IsNear result.marks }
+{
+    let bounds = old.bounds();
+    Digest {
+        size: bounds.size,
+        ext_size: bounds.ext_size,
+        elements: bounds.elements,
+        align: bounds.align,
+        span: true_span(&bounds),
+        marks: wide(old.marks()),
+    }
+}
+
+/// Of a kind at 0.
+fn of_kind(kind: Kind) -> Digest
+    ensures { result ≡ digest_of (placed_by (ShapeOf.One kind)) }
+{
+    let size = kind.size();
+    Digest {
+        size: u64::from(size),
+        ext_size: u64::from(external_size_of(kind)),
+        elements: 1,
+        align: size,
+        span: Some(Span {
+            lb: 0,
+            ub: i128::from(size),
+        }),
+        marks: None,
+    }
+}
+
+/// Of parts, one after another.
+fn of_parts(parts: &[ShapePart]) -> Digest
+    requires { AllByRecursion IsShapePart parts.now }
+    ensures { result ≡ digest_of (placed_parts parts.now) }
+{
+    let mut digest = Digest {
+        size: 0,
+        ext_size: 0,
+        elements: 0,
+        align: 1,
+        span: None,
+        marks: None,
+    };
+    for part in parts {
+        let reach = row_reach(part.first, part.copies, part.step);
+        digest = joined(digest, repeated(reach, of_type(&part.old)));
+    }
+    digest
+}
+
+/// Of all that a shape places.
+pub(crate) fn of_shape(shape: &Shape) -> Digest
+    requires { HasNumbers shape.now }
+    ensures { result ≡ digest_of (placed_by shape.now) }
+{
+    match shape {
+        ShapeOf::One(kind) => of_kind(*kind),
+        ShapeOf::Grid { turns, old } => repeated(grid_reach(turns.as_slice()), of_type(old)),
+        ShapeOf::Each { spots, old } => repeated(spots_reach(spots.as_slice()), of_type(old)),
+        ShapeOf::Seq { parts } => of_parts(parts.as_slice()),
     }
 }

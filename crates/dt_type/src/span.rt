@@ -130,7 +130,8 @@ fn nested(outer: Reach, inner: Reach) -> Reach
 pub(crate) fn grid_reach(turns: &[Turns]) -> Reach
     requires turns { AllByRecursion AreTurns turns.now }
     requires nested { AreNested turns.now }
-    ensures { result ≡ spec.reach (grid_offsets turns.now) }
+    ensures value { result ≡ spec.reach (grid_offsets turns.now) }
+    ensures near { IsNear result.span }
 {
     let mut reach = Reach {
         copies: 1,
@@ -149,7 +150,8 @@ pub(crate) fn grid_reach(turns: &[Turns]) -> Reach
 /// Of the rows of spots.
 pub(crate) fn spots_reach(spots: &[Spot]) -> Reach
     requires { AllByRecursion IsSpot spots.now }
-    ensures { result ≡ spec.reach (spot_offsets spots.now) }
+    ensures value { result ≡ spec.reach (spot_offsets spots.now) }
+    ensures near { IsNear result.span }
 {
     let mut reach = Reach {
         copies: 0,
@@ -165,7 +167,8 @@ pub(crate) fn spots_reach(spots: &[Spot]) -> Reach
 pub(crate) fn row_reach(first: i128, copies: u32, step: i128) -> Reach
     requires first { IsFactor first }
     requires step { IsFactor step }
-    ensures { result ≡ spec.reach (row_offsets first copies step) }
+    ensures value { result ≡ spec.reach (row_offsets first copies step) }
+    ensures near { IsNear result.span }
 {
     let copies = u64::from(copies);
     Reach {

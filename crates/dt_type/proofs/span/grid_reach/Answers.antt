@@ -1,10 +1,12 @@
 use Rattle.std.proofs.Common.{◌≡◌, ◌∙◌, sym, ap, subst, take, get_or, pos}
+use Rattle.std.proofs.lemmas.List.{take_all}
 use Rattle.dt_type.specs.declared.shape.Turns.{Turns}
 use Rattle.dt_type.specs.declared.span.Reach.{Reach}
 use Rattle.dt_type.specs.Conditions.{AreTurns}
 use Rattle.dt_type.specs.Reach.{nested, reach}
 use Rattle.dt_type.specs.Shape.{grid_offsets}
-use Rattle.dt_type.specs.Span.{IsNear}
+use Rattle.dt_type.specs.Span.{reach_of, IsNear}
+use Rattle.dt_type.proofs.GridNear.{grid_whole_near}
 use Rattle.dt_type.proofs.Near.{all_at, grid_near, turns_near}
 use Rattle.dt_type.proofs.Reaches.{grid-step, reach-turns}
 use Rattle.dt_type.proofs.span.grid_reach.Goals as goal
@@ -32,3 +34,10 @@ loop-inner-preserved c =
     ∙ ap (λ r. let s : Reach = record { copies = t.count; span = c.turns_reach.result } in nested r s) c.loop-inner.invariant
     ∙ ap (nested outer) inner
     ∙ sym step
+
+pub returns-clause-near : goal.returns-clause-near
+returns-clause-near c =
+    let all = take_all c.loop-inner.inner-index c.args.turns.now c.loop-inner-test.false in
+    let whole = ap (λ ts. reach_of (grid_offsets ts)) (sym all) in
+    let span : reach_of (grid_offsets (take c.loop-inner.inner-index c.args.turns.now)) ≡ c.loop-inner.reach.span = sym (ap (λ (r : Reach). r.span) c.loop-inner.invariant) in
+    subst IsNear (whole ∙ span) (grid_whole_near c.args.turns.now c.requires.turns c.requires.nested)
