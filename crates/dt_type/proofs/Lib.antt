@@ -1,4 +1,5 @@
 pub mod Counted
+pub mod DigestBounds
 pub mod Digests
 pub mod Examples
 pub mod GridNear

@@ -16,7 +16,7 @@ use Rattle.dt_type.specs.Digest.{true_span}
 use Rattle.dt_type.specs.Span.{span_of, entry_span, IsNear}
 
 -- two ends of one span, or neither
-data Paired : Option ℤ → Option ℤ → Option Marks → Type 0 where
+pub data Paired : Option ℤ → Option ℤ → Option Marks → Type 0 where
   neither : Paired None None None
   both : (l g : ℤ) → Paired (Some l) (Some g) (Some (record { lb = l; ub = g }))
 
@@ -28,7 +28,7 @@ one_more e (Some l) None s p = elim p [ ]
 one_more e (Some l) (Some g) None p = elim p [ ]
 one_more e (Some l) (Some g) (Some s) (both _ _) = both (int_min e.disp l) (int_max (end_of e) g)
 
-paired : (es : List Entry) → Paired (least (map (λ e. e.disp) es)) (greatest (map end_of es)) (span_of es)
+pub paired : (es : List Entry) → Paired (least (map (λ e. e.disp) es)) (greatest (map end_of es)) (span_of es)
 paired [] = neither
 paired (e ∷ es) = one_more e (least (map (λ x. x.disp) es)) (greatest (map end_of es)) (span_of es) (paired es)
 

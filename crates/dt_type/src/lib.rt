@@ -6,6 +6,7 @@ pub mod fault;
 pub mod form;
 pub mod shape;
 mod digest;
+mod range;
 mod span;
 
 pub use datatype::{Datatype, Seen};
