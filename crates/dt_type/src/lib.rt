@@ -6,6 +6,7 @@ pub mod fault;
 pub mod form;
 pub mod shape;
 mod digest;
+mod measures;
 mod range;
 mod span;
 
