@@ -1,5 +1,5 @@
 -- The bounds that a digest tells are those of the typemap.
-use Rattle.std.specs.Prelude.{◌≡◌, Option, Some, None, ℕ, ◌+◌, ◌≤◌, ℤ, pos, ◌+ℤ◌, ◌-ℤ◌, nat_abs, List, map, length, unwrap_or}
+use Rattle.std.specs.Prelude.{◌≡◌, Option, Some, None, ℕ, ◌≤◌, ℤ, pos, List, map, length, unwrap_or}
 use Rattle.std.proofs.Common.{refl, sym, ap, subst, ◌∙◌, arith}
 use Rattle.dt_map.specs.declared.typemap.Bounds.{Bounds}
 use Rattle.dt_map.specs.declared.typemap.Entry.{Entry}
@@ -48,7 +48,7 @@ made_of size external elements align ends outer = record {
 
 rounded : (m : Marked) (marks : Option Marks) (size external elements : ℕ)
     → made_of size external elements (alignment m.entries) (true_ends m.entries) (outer_ends (true_ends m.entries) (alignment m.entries) marks)
-      ≡ record (bounds_of (with_marks m marks)) { size = size; ext_size = external; elements = elements }
+    ≡ record (bounds_of (with_marks m marks)) { size = size; ext_size = external; elements = elements }
 rounded m None size external elements = refl
 rounded m (Some marks) size external elements = refl
 
@@ -66,7 +66,7 @@ digest_bounds m marks small =
     ap (λ e. made_of x y z (alignment m.entries) e (outer_ends e (alignment m.entries) marks)) (ends_are m.entries)
     ∙ rounded m marks x y z
     ∙ same_sizes (bounds_of (with_marks m marks)) x y z
-      (below_most (size_of m.entries) (omega arith)) (below_most (external_size_of m.entries) (omega arith)) (below_most (length m.entries) (omega arith))
+    (below_most (size_of m.entries) (omega arith)) (below_most (external_size_of m.entries) (omega arith)) (below_most (length m.entries) (omega arith))
 
 pub told : (m : Marked) (marks : Option Marks) → AreInRange (bounds_from (digest_of m) marks) → bounds_from (digest_of m) marks ≡ bounds_of (with_marks m marks)
 told m marks range = let size = range.size in digest_bounds m marks (omega arith)

@@ -1,7 +1,7 @@
 -- Digests of copies and of joined typemaps.
-use Rattle.std.specs.Prelude.{◌≡◌, Option, Some, None, ℕ, zero, suc, ◌+◌, ◌*◌, ◌-◌, ◌^◌, ◌<◌, ◌≤◌, ◌==◌, Bool, true, false, cond, min, max, ℤ, pos, ◌+ℤ◌, List, [], ◌∷◌, ◌++◌, map, length, take, get_or}
+use Rattle.std.specs.Prelude.{◌≡◌, Option, ℕ, suc, ◌+◌, ◌*◌, ◌<◌, ◌≤◌, ◌==◌, Bool, true, false, cond, max, ℤ, pos, ◌+ℤ◌, List, [], ◌∷◌, ◌++◌, map, length, take, get_or}
 use Rattle.std.specs.List.{flat_map, sum_by}
-use Rattle.std.proofs.Common.{refl, sym, ap, subst, ◌∙◌, arith, length-append}
+use Rattle.std.proofs.Common.{refl, sym, ap, ◌∙◌, arith, length-append}
 use Rattle.std.proofs.lemmas.Grind.{flat_map-append}
 use Rattle.std.proofs.lemmas.Bool.Decides.{nat_tests}
 use Rattle.std.proofs.lemmas.Int.{ints}
@@ -12,14 +12,13 @@ use Rattle.dt_kinds.specs.Kind.{native_size, external_size}
 use Rattle.dt_map.specs.declared.typemap.Bounds.{Bounds}
 use Rattle.dt_map.specs.declared.typemap.Entry.{Entry}
 use Rattle.dt_map.specs.declared.typemap.Marks.{Marks}
-use Rattle.dt_map.specs.Bounds.{size_of, external_size_of, alignment, end_of, bounds_of}
+use Rattle.dt_map.specs.Bounds.{size_of, external_size_of, alignment, bounds_of}
 use Rattle.dt_map.specs.Constructors.{copies_at}
 use Rattle.dt_map.specs.Placing.{joined_marks, placed_marks, place}
 use Rattle.dt_map.specs.Typemap.{Marked, shift, shift_entry, shift_marks}
 use Rattle.dt_type.specs.declared.datatype.Seen.{Seen}
 use Rattle.dt_type.specs.declared.shape.ShapePartOf.{ShapePartOf}
 use Rattle.dt_type.specs.declared.digest.Digest.{Digest}
-use Rattle.dt_type.specs.declared.span.Reach.{Reach}
 use Rattle.dt_type.specs.Datatype.{typemap_of, IsInRange}
 use Rattle.dt_type.specs.Digest.{digest_of, repeated, joined, true_span}
 use Rattle.dt_type.specs.Reach.{capped, reach}
@@ -84,16 +83,16 @@ alignment-copies (x ∷ xs) m =
     ∙ ap (λ n. max (alignment m.entries) n) (alignment-copies xs m)
     ∙ greatest (capped (length xs) == 0)
     ∙ sym (ap (λ b. cond b 1 (alignment m.entries)) (none_is (length xs)))
-    where
-      greatest : (b : Bool) → max (alignment m.entries) (cond b 1 (alignment m.entries)) ≡ alignment m.entries
-      greatest true = let h = least_alignment m.entries in omega arith
-      greatest false = omega arith
+  where
+    greatest : (b : Bool) → max (alignment m.entries) (cond b 1 (alignment m.entries)) ≡ alignment m.entries
+    greatest true = let h = least_alignment m.entries in omega arith
+    greatest false = omega arith
 
 entry_shift : (x : ℤ) (e : Entry) → entry_span (shift_entry x e) ≡ shift_marks x (entry_span e)
 entry_shift x e = some_same _ _ _ _ refl (end_shift e.disp x (pos (native_size e.kind)))
-    where
-      end_shift : (d y n : ℤ) → (d +ℤ y) +ℤ n ≡ (d +ℤ n) +ℤ y
-      end_shift d y n = omega (arith, ints)
+  where
+    end_shift : (d y n : ℤ) → (d +ℤ y) +ℤ n ≡ (d +ℤ n) +ℤ y
+    end_shift d y n = omega (arith, ints)
 
 span-shift : (x : ℤ) (es : List Entry) → span_of (shift x es) ≡ shift_marks x (span_of es)
 span-shift x es =
@@ -144,12 +143,12 @@ pub digest-append : (ms ns : List (ℤ × Marked)) → digest_of (place (ms ++ n
 digest-append ms ns =
     ap (λ es. let m : Marked = record { entries = es; marks = placed_marks (ms ++ ns) } in digest_of m) (flat_map-append (λ (member : ℤ × Marked). shift member.0 member.1.entries) ms ns)
     ∙ same_digest _ _ _ _ _ _ _ _ _ _ _ _
-      (joined_capped (size_of (entries_at ms)) (size_of (entries_at ns)) _ (sum_by-append (λ (e : Entry). native_size e.kind) (entries_at ms) (entries_at ns)))
-      (joined_capped (external_size_of (entries_at ms)) (external_size_of (entries_at ns)) _ (sum_by-append (λ (e : Entry). external_size e.kind) (entries_at ms) (entries_at ns)))
-      (joined_capped (length (entries_at ms)) (length (entries_at ns)) _ (length-append (entries_at ms) (entries_at ns)))
-      (alignment-append (entries_at ms) (entries_at ns))
-      (spans-append entry_span (entries_at ms) (entries_at ns))
-      (marks-append ms ns)
+    (joined_capped (size_of (entries_at ms)) (size_of (entries_at ns)) _ (sum_by-append (λ (e : Entry). native_size e.kind) (entries_at ms) (entries_at ns)))
+    (joined_capped (external_size_of (entries_at ms)) (external_size_of (entries_at ns)) _ (sum_by-append (λ (e : Entry). external_size e.kind) (entries_at ms) (entries_at ns)))
+    (joined_capped (length (entries_at ms)) (length (entries_at ns)) _ (length-append (entries_at ms) (entries_at ns)))
+    (alignment-append (entries_at ms) (entries_at ns))
+    (spans-append entry_span (entries_at ms) (entries_at ns))
+    (marks-append ms ns)
 
 -- of a datatype, whose numbers are in range
 pub digest-type : (m : Marked) (b : Bounds) (s marks : Option Marks) → b ≡ bounds_of m → IsInRange m → b.elements ≤ b.size → b.ext_size ≤ b.size → s ≡ true_span b → marks ≡ m.marks
@@ -170,7 +169,7 @@ digest-type m b s marks e range elements external span same =
 -- one more part
 pub digest-part : (parts : List (ShapePartOf Seen)) (i : ℕ) (p d : ShapePartOf Seen) → i < length parts → p ≡ get_or parts i d
     → digest_of (placed_parts (take (i + 1) parts))
-      ≡ joined (digest_of (placed_parts (take i parts))) (repeated (reach (row_offsets p.first p.copies p.step)) (digest_of (typemap_of p.old)))
+    ≡ joined (digest_of (placed_parts (take i parts))) (repeated (reach (row_offsets p.first p.copies p.step)) (digest_of (typemap_of p.old)))
 digest-part parts i p d lt e =
     ap (λ ps. digest_of (placed_parts ps)) (take_more parts i d lt ∙ ap (λ q. take i parts ++ q ∷ []) (sym e))
     ∙ ap (λ ms. digest_of (place ms)) (flat_map-append part_members (take i parts) (p ∷ []) ∙ ap (λ ms. flat_map part_members (take i parts) ++ ms) (append-nil (part_members p)))

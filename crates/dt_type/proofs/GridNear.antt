@@ -1,5 +1,5 @@
 -- The span of nested turns stays within 128 bits.
-use Rattle.std.specs.Prelude.{◌≡◌, Option, Some, None, ◌+ℤ◌, pos, List, [], ◌∷◌, length, take}
+use Rattle.std.specs.Prelude.{Option, Some, None, pos, List, [], ◌∷◌, length, take}
 use Rattle.std.specs.List.{AllByRecursion}
 use Rattle.std.proofs.Common.{sym, ap, subst, arith}
 use Rattle.std.proofs.lemmas.Int.{ints}

@@ -8,6 +8,7 @@ pub mod Near
 pub mod OneEntry
 pub mod Products
 pub mod Reaches
+pub mod Refusals
 pub mod Rows
 pub mod Shown
 pub mod Spans

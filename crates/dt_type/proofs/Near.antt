@@ -1,7 +1,7 @@
 -- Spans of rows and turns stay within 128 bits.
-use Rattle.std.specs.Prelude.{◌≡◌, Option, Some, None, ℕ, zero, suc, ◌+◌, ◌*◌, ◌/◌, ◌%◌, ◌^◌, ◌<◌, ◌≤◌, ℤ, pos, ◌+ℤ◌, ◌*ℤ◌, nat_abs, List, [], ◌∷◌, ◌++◌, map, length, take, get_or}
+use Rattle.std.specs.Prelude.{Option, Some, None, ℕ, zero, suc, ◌+◌, ◌*◌, ◌/◌, ◌%◌, ◌^◌, ◌<◌, ◌≤◌, ℤ, pos, ◌+ℤ◌, ◌*ℤ◌, nat_abs, List, [], ◌∷◌, ◌++◌, map, length, take, get_or}
 use Rattle.std.specs.List.{AllByRecursion}
-use Rattle.std.proofs.Common.{refl, sym, ap, subst, ◌∙◌, arith}
+use Rattle.std.proofs.Common.{sym, subst, arith}
 use Rattle.std.proofs.lemmas.Int.{ints, clamps}
 use Rattle.std.proofs.lemmas.List.{map-append}
 use Rattle.std.proofs.Math.Nat.{mod-lt, div-le_of_le-mul}
@@ -12,7 +12,7 @@ use Rattle.dt_map.specs.Placing.{joined_marks}
 use Rattle.dt_type.specs.declared.shape.Turns.{Turns}
 use Rattle.dt_type.specs.Conditions.{IsFactor, AreTurns, AreNested}
 use Rattle.dt_type.specs.Shape.{row_offsets, turn_offset, turn_offsets, grid_offsets}
-use Rattle.dt_type.specs.Span.{spans, point, reach_of, stretched, IsWithin, IsNear}
+use Rattle.dt_type.specs.Span.{point, reach_of, IsWithin, IsNear}
 use Rattle.dt_type.proofs.Products.{product_near}
 
 pub joined_within : (n : ℕ) (a b : Option Marks) → IsWithin n a → IsWithin n b → IsWithin n (joined_marks a b)
@@ -37,7 +37,7 @@ all_below P f (suc n) h =
 pub row_near : (first step : ℤ) (n : ℕ) → IsFactor step → nat_abs first + n * 2 ^ 93 < 2 ^ 126 → IsNear (reach_of (row_offsets first n step))
 row_near first step n factor near =
     reach_within (2 ^ 126) (row_offsets first n step) (all_below (λ x. nat_abs x < 2 ^ 126) (λ j. first +ℤ (pos j *ℤ step)) n
-        (λ j h. let p = product_near j step factor in omega (arith, ints)))
+    (λ j h. let p = product_near j step factor in omega (arith, ints)))
 
 block_of : (t : Turns) → AreTurns t → (q : ℕ) → q < t.count → q / t.block ≤ 2147483648
 block_of t turns q h = let most = turns.count in div-le_of_le-mul t.block (omega arith)
@@ -48,15 +48,15 @@ blocks_of t turns = let most = turns.count in div-le_of_le-mul t.block (omega ar
 pub turns_near : (t : Turns) → AreTurns t → IsNear (reach_of (turn_offsets t))
 turns_near t turns =
     reach_within (2 ^ 126) (turn_offsets t) (all_below (λ x. nat_abs x < 2 ^ 126) (turn_offset t) t.count
-        (λ q h.
-            let first = turns.first in
-            let most = turns.most in
-            let least = turns.least in
-            let jump = product_near (q / t.block) t.jump turns.jump in
-            let step = product_near (q % t.block) t.step turns.step in
-            let block = block_of t turns q h in
-            let rest : q % t.block < t.block = mod-lt q (omega arith) in
-            omega (arith, ints)))
+    (λ q h.
+    let first = turns.first in
+    let most = turns.most in
+    let least = turns.least in
+    let jump = product_near (q / t.block) t.jump turns.jump in
+    let step = product_near (q % t.block) t.step turns.step in
+    let block = block_of t turns q h in
+    let rest : q % t.block < t.block = mod-lt q (omega arith) in
+    omega (arith, ints)))
 
 within_more : (m n : ℕ) (s : Option Marks) → m ≤ n → IsWithin m s → IsWithin n s
 within_more m n None le h = tt

@@ -1,6 +1,6 @@
 -- How great the products of a count and a factor are, and their sign.
-use Rattle.std.specs.Prelude.{◌≡◌, ℕ, zero, suc, ◌+◌, ◌*◌, ◌^◌, ◌<◌, ◌≤◌, ◌⊎◌, ℤ, pos, negsuc, ◌+ℤ◌, ◌*ℤ◌, ◌≤ℤ◌, nat_abs, FitsSigned}
-use Rattle.std.proofs.Common.{refl, sym, ap, subst, ◌∙◌, arith, inl, inr}
+use Rattle.std.specs.Prelude.{◌≡◌, ℕ, suc, ◌+◌, ◌*◌, ◌^◌, ◌<◌, ◌≤◌, ℤ, pos, negsuc, ◌+ℤ◌, ◌*ℤ◌, ◌≤ℤ◌, nat_abs, FitsSigned}
+use Rattle.std.proofs.Common.{ap, ◌∙◌, arith}
 use Rattle.std.proofs.Math.IntN.{neg_ℤ, pos-*ℤ-pos, pos-*ℤ-negsuc, suc_ℤ-*ℤ}
 use Rattle.std.proofs.Math.Nat.{mul-le-mul_left}
 use lib.Signed.{mag}
@@ -50,7 +50,7 @@ module _ (first step : ℤ) (n : ℕ) (factor : IsFactor step) (near : nat_abs f
   read_back fits_first fits_step r e =
       let fits_r : FitsSigned w128 r = omega (arith, ints) in
       let factors : to_z w128 (of_z w128 r) *ℤ to_z w128 (of_z w128 step) ≡ pos n *ℤ step =
-          ap (λ x. x *ℤ to_z w128 (of_z w128 step)) (to_z-of_z w128 r fits_r ∙ e) ∙ ap (λ x. pos n *ℤ x) (to_z-of_z w128 step fits_step) in
+      ap (λ x. x *ℤ to_z w128 (of_z w128 step)) (to_z-of_z w128 r fits_r ∙ e) ∙ ap (λ x. pos n *ℤ x) (to_z-of_z w128 step fits_step) in
       ap (λ x. x +ℤ to_z w128 (of_z w128 (to_z w128 (of_z w128 r) *ℤ to_z w128 (of_z w128 step)))) (to_z-of_z w128 first fits_first)
       ∙ ap (λ x. first +ℤ to_z w128 (of_z w128 x)) factors
       ∙ ap (λ x. first +ℤ x) (to_z-of_z w128 (pos n *ℤ step) far_fits)

@@ -1,7 +1,7 @@
 -- The reach of joined and nested lists of offsets.
-use Rattle.std.specs.Prelude.{◌≡◌, Option, Some, None, ℕ, zero, suc, ◌+◌, ◌*◌, ◌-◌, ◌^◌, ◌<◌, ◌≤◌, min, ◌⊎◌, ℤ, pos, ◌+ℤ◌, ◌*ℤ◌, List, [], ◌∷◌, ◌++◌, map, length, take, get_or}
+use Rattle.std.specs.Prelude.{◌≡◌, Option, Some, None, ℕ, zero, suc, ◌+◌, ◌*◌, ◌-◌, ◌^◌, ◌<◌, ◌≤◌, ℤ, pos, ◌+ℤ◌, ◌*ℤ◌, List, [], ◌∷◌, ◌++◌, map, length, take, get_or}
 use Rattle.std.specs.List.{flat_map}
-use Rattle.std.proofs.Common.{refl, sym, ap, subst, ◌∙◌, arith, inl, inr, length-append}
+use Rattle.std.proofs.Common.{refl, sym, ap, ◌∙◌, arith, inl, inr, length-append}
 use Rattle.std.proofs.lemmas.Bool.{cases_lt}
 use Rattle.std.proofs.lemmas.Int.{ints}
 use Rattle.std.proofs.lemmas.Grind.{flat_map-append}
@@ -16,7 +16,7 @@ use Rattle.dt_type.specs.declared.span.Reach.{Reach}
 use Rattle.dt_type.specs.Conditions.{AreTurns}
 use Rattle.dt_type.specs.Reach.{capped, reach, beside, nested}
 use Rattle.dt_type.specs.Shape.{row_offsets, turn_offset, turn_offsets, grid_offsets, spot_offsets}
-use Rattle.dt_type.specs.Span.{spans, point, reach_of, stretched}
+use Rattle.dt_type.specs.Span.{point, reach_of, stretched}
 use Rattle.dt_type.proofs.Spans.{some_same, spans-append, spans-map, spans-flat_map, spans-same, spans-shift, spans-copies}
 
 abbrev most : ℕ
@@ -35,11 +35,11 @@ pub capped-mul : (a n : ℕ) → capped (a * capped n) ≡ capped (a * n)
 capped-mul zero n = let x : zero * capped n ≡ 0 = omega arith in let y : zero * n ≡ 0 = omega arith in ap capped (x ∙ sym y)
 capped-mul (suc a) n =
     elim (cases_lt n most) [
-      inl h ↦ ap (λ k. capped (suc a * k)) (below_most n (omega arith))
-    | inr h ↦
-        let great : suc a * most ≤ suc a * n = mul-le-mul_left (suc a) h in
-        let least : most ≤ suc a * most = omega arith in
-        ap (λ k. capped (suc a * k)) (above_most n h) ∙ above_most (suc a * most) least ∙ sym (above_most (suc a * n) (omega arith))
+      | inl h ↦ ap (λ k. capped (suc a * k)) (below_most n (omega arith))
+      | inr h ↦
+          let great : suc a * most ≤ suc a * n = mul-le-mul_left (suc a) h in
+          let least : most ≤ suc a * most = omega arith in
+          ap (λ k. capped (suc a * k)) (above_most n h) ∙ above_most (suc a * most) least ∙ sym (above_most (suc a * n) (omega arith))
     ]
 
 pub capped-mul-left : (a n : ℕ) → capped (capped a * n) ≡ capped (a * n)
@@ -77,8 +77,8 @@ reach-sums xs ys =
     reach_same _ _ _ _
     (ap capped (length-sums xs ys) ∙ sym (capped-mul-left (length xs) (length ys)) ∙ sym (capped-mul (capped (length xs)) (length ys)))
     (spans-flat_map point (λ x. map (λ y. x +ℤ y) ys) xs
-     ∙ spans-same (λ x. reach_of (map (λ y. x +ℤ y) ys)) (λ x. shift_marks x (reach_of ys)) (λ x. moved x ys) xs
-     ∙ spans-copies (reach_of ys) xs)
+    ∙ spans-same (λ x. reach_of (map (λ y. x +ℤ y) ys)) (λ x. shift_marks x (reach_of ys)) (λ x. moved x ys) xs
+    ∙ spans-copies (reach_of ys) xs)
 
 stretched-comm : (a b : Option Marks) → stretched a b ≡ stretched b a
 stretched-comm None None = refl
@@ -144,5 +144,5 @@ grid-step turns i d lt = ap (λ ts. reach (grid_offsets ts)) (take_more turns i 
 
 pub spots-step : (spots : List Spot) (i : ℕ) (d : Spot) → i < length spots
     → reach (spot_offsets (take (i + 1) spots))
-      ≡ beside (reach (spot_offsets (take i spots))) (reach (row_offsets (get_or spots i d).first (get_or spots i d).copies (get_or spots i d).step))
+    ≡ beside (reach (spot_offsets (take i spots))) (reach (row_offsets (get_or spots i d).first (get_or spots i d).copies (get_or spots i d).step))
 spots-step spots i d lt = ap (λ ss. reach (spot_offsets ss)) (take_more spots i d lt) ∙ spots-more (take i spots) (get_or spots i d)

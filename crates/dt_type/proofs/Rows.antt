@@ -1,5 +1,5 @@
 -- The span of a row of copies has the first and the last one as its ends.
-use Rattle.std.specs.Prelude.{◌≡◌, Option, Some, None, ℕ, zero, suc, ◌+◌, ◌-◌, ◌*◌, ℤ, pos, ◌+ℤ◌, ◌*ℤ◌, List, [], ◌∷◌, ◌++◌, map}
+use Rattle.std.specs.Prelude.{◌≡◌, Option, Some, ℕ, zero, suc, ◌-◌, ℤ, pos, ◌+ℤ◌, ◌*ℤ◌, [], ◌∷◌}
 use Rattle.std.specs.Int.{int_min, int_max}
 use Rattle.std.proofs.Common.{refl, sym, ap, ◌∙◌, arith}
 use Rattle.std.proofs.lemmas.List.{map-append}
@@ -9,7 +9,7 @@ use Rattle.dt_map.specs.declared.typemap.Marks.{Marks}
 use Rattle.dt_map.specs.Numbers.{below}
 use Rattle.dt_map.specs.Placing.{joined_marks}
 use Rattle.dt_type.specs.Shape.{row_offsets}
-use Rattle.dt_type.specs.Span.{spans, point, reach_of}
+use Rattle.dt_type.specs.Span.{point, reach_of}
 use Rattle.dt_type.proofs.Products.{SameSign, positive, negative, same_sign, one_more}
 use Rattle.dt_type.proofs.Spans.{spans-append}
 
@@ -32,11 +32,12 @@ further a p s same =
 one_point : (a z : ℤ) → z ≡ pos 0 → point (a +ℤ z) ≡ ends a (a +ℤ z)
 one_point a z e =
     ap (λ x. let m : Marks = record { lb = x; ub = a +ℤ z } in Some m) low ∙ ap (λ x. let m : Marks = record { lb = int_min a (a +ℤ z); ub = x } in Some m) high
-    where
-      low : a +ℤ z ≡ int_min a (a +ℤ z)
-      low = omega (arith, ints, clamps)
-      high : a +ℤ z ≡ int_max a (a +ℤ z)
-      high = omega (arith, ints, clamps)
+  where
+    low : a +ℤ z ≡ int_min a (a +ℤ z)
+    low = omega (arith, ints, clamps)
+
+    high : a +ℤ z ≡ int_max a (a +ℤ z)
+    high = omega (arith, ints, clamps)
 
 pub row-more : (first step : ℤ) (n : ℕ) → reach_of (row_offsets first (suc n) step) ≡ joined_marks (reach_of (row_offsets first n step)) (point (first +ℤ (pos n *ℤ step)))
 row-more first step n =

@@ -1,13 +1,13 @@
 -- True bounds are the ends of the span of the entries.
-use Rattle.std.specs.Prelude.{◌≡◌, Option, Some, None, ℕ, zero, suc, ◌+◌, ◌*◌, ◌^◌, ◌<◌, ◌≤◌, ◌==◌, cond, false, true, ℤ, pos, List, [], ◌∷◌, map, length, nat_abs, unwrap_or, Bool}
+use Rattle.std.specs.Prelude.{◌≡◌, Option, Some, None, ◌^◌, ◌<◌, ◌==◌, cond, false, true, ℤ, pos, List, [], ◌∷◌, map, length, nat_abs, unwrap_or, Bool}
 use Rattle.std.specs.Int.{int_min, int_max}
-use Rattle.std.proofs.Common.{refl, sym, ap, subst, ◌∙◌, arith}
+use Rattle.std.proofs.Common.{refl, ap, subst, ◌∙◌, arith}
 use Rattle.std.proofs.Math.Dec.{eqb-suc-zero}
 use Rattle.std.proofs.lemmas.Int.{ints}
 use Rattle.dt_kinds.specs.Displacement.{FitsDisp}
 use Rattle.dt_map.specs.declared.typemap.Entry.{Entry}
 use Rattle.dt_map.specs.declared.typemap.Marks.{Marks}
-use Rattle.dt_map.specs.Bounds.{true_lb, true_ub, end_of, bounds_of, lower, upper}
+use Rattle.dt_map.specs.Bounds.{true_lb, true_ub, end_of, bounds_of}
 use Rattle.dt_map.specs.Numbers.{least, greatest, lesser, greater}
 use Rattle.dt_map.specs.Placing.{joined_marks}
 use Rattle.dt_map.specs.Typemap.{Marked}
@@ -46,14 +46,14 @@ some_joined a (Some b) e = cc
 
 pub true_span_is : (m : Marked) → true_span (bounds_of m) ≡ span_of m.entries
 true_span_is m = cases m.entries
-    where
-      cases : (es : List Entry) → cond (length es == 0) None (Some (record { lb = true_lb es; ub = true_ub es })) ≡ span_of es
-      cases [] = refl
-      cases (e ∷ es) =
-          let ends : Option Marks = Some (record { lb = true_lb (e ∷ es); ub = true_ub (e ∷ es) }) in
-          ap (λ b. cond b None ends) (eqb-suc-zero (length es))
-          ∙ filled (least (map (λ x. x.disp) (e ∷ es))) (greatest (map end_of (e ∷ es))) (span_of (e ∷ es)) (paired (e ∷ es))
-            (some_joined (record { lb = e.disp; ub = end_of e }) (span_of es))
+  where
+    cases : (es : List Entry) → cond (length es == 0) None (Some (record { lb = true_lb es; ub = true_ub es })) ≡ span_of es
+    cases [] = refl
+    cases (e ∷ es) =
+        let ends : Option Marks = Some (record { lb = true_lb (e ∷ es); ub = true_ub (e ∷ es) }) in
+        ap (λ b. cond b None ends) (eqb-suc-zero (length es))
+        ∙ filled (least (map (λ x. x.disp) (e ∷ es))) (greatest (map end_of (e ∷ es))) (span_of (e ∷ es)) (paired (e ∷ es))
+        (some_joined (record { lb = e.disp; ub = end_of e }) (span_of es))
 
 fits_near : (x : ℤ) → FitsDisp x → nat_abs x < 2 ^ 126
 fits_near x fits = let low = fits.0 in let high = fits.1 in omega (arith, ints)
@@ -61,10 +61,10 @@ fits_near x fits = let low = fits.0 in let high = fits.1 in omega (arith, ints)
 -- in range, spans stretch each other within 128 bits
 pub span_near : (m : Marked) → IsInRange m → IsNear (span_of m.entries)
 span_near m range = subst IsNear (true_span_is m) (cases (length m.entries == 0))
-    where
-      cases : (b : Bool) → IsNear (cond b None (Some (record { lb = true_lb m.entries; ub = true_ub m.entries })))
-      cases true = tt
-      cases false = (fits_near (true_lb m.entries) range.true_lb, fits_near (true_ub m.entries) range.true_ub)
+  where
+    cases : (b : Bool) → IsNear (cond b None (Some (record { lb = true_lb m.entries; ub = true_ub m.entries })))
+    cases true = tt
+    cases false = (fits_near (true_lb m.entries) range.true_lb, fits_near (true_ub m.entries) range.true_ub)
 
 pub marks_near : (entries : List Entry) (marks : Option Marks) → (let m : Marked = record { entries = entries; marks = marks } in IsInRange m) → IsNear marks
 marks_near entries None range = tt

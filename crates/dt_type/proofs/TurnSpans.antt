@@ -1,16 +1,15 @@
 -- The span of turns: that of their whole blocks, and that of the turns in the last block.
-use Rattle.std.specs.Prelude.{◌≡◌, Option, ℕ, suc, ◌+◌, ◌*◌, ◌/◌, ◌%◌, ◌<◌, ◌≤◌, ℤ, pos, ◌+ℤ◌, ◌*ℤ◌, List, map, ◌++◌}
+use Rattle.std.specs.Prelude.{◌≡◌, ℕ, ◌+◌, ◌*◌, ◌/◌, ◌%◌, ◌<◌, ◌≤◌, ℤ, pos, ◌+ℤ◌, ◌*ℤ◌, List, map, ◌++◌}
 use Rattle.std.specs.List.{flat_map}
-use Rattle.std.proofs.Common.{refl, sym, ap, ◌∙◌, arith}
+use Rattle.std.proofs.Common.{sym, ap, ◌∙◌, arith}
 use Rattle.std.proofs.lemmas.Int.{ints}
 use Rattle.std.proofs.Math.Nat.{mod-lt}
-use Rattle.dt_map.specs.declared.typemap.Marks.{Marks}
 use Rattle.dt_map.specs.Numbers.{below}
 use Rattle.dt_map.specs.Placing.{joined_marks}
 use Rattle.dt_map.specs.Typemap.{shift_marks}
 use Rattle.dt_type.specs.declared.shape.Turns.{Turns}
 use Rattle.dt_type.specs.Shape.{row_offsets, turn_offset, turn_offsets}
-use Rattle.dt_type.specs.Span.{spans, point, reach_of, stretched}
+use Rattle.dt_type.specs.Span.{point, reach_of, stretched}
 use Rattle.dt_type.proofs.InRows.{in_rows}
 use Rattle.dt_type.proofs.Spans.{spans-append, spans-map, spans-flat_map, spans-same, spans-shift, spans-copies}
 
@@ -34,7 +33,7 @@ blocks-reach first blocks jump block step =
     let inner = reach_of (row_offsets (pos 0) block step) in
     spans-flat_map point (λ i. row_offsets (first +ℤ (pos i *ℤ jump)) block step) (below blocks)
     ∙ spans-same (λ i. reach_of (row_offsets (first +ℤ (pos i *ℤ jump)) block step)) (λ i. shift_marks (first +ℤ (pos i *ℤ jump)) inner)
-          (λ i. row-shift (first +ℤ (pos i *ℤ jump)) step block) (below blocks)
+    (λ i. row-shift (first +ℤ (pos i *ℤ jump)) step block) (below blocks)
     ∙ sym (spans-map (λ x. shift_marks x inner) (λ i. first +ℤ (pos i *ℤ jump)) (below blocks))
     ∙ spans-copies inner (row_offsets first blocks jump)
 
@@ -48,8 +47,8 @@ turns-rows t h =
 
 pub turns-reach : (t : Turns) → 1 ≤ t.block
     → reach_of (turn_offsets t)
-      ≡ joined_marks (stretched (reach_of (row_offsets t.first (t.count / t.block) t.jump)) (reach_of (row_offsets (pos 0) t.block t.step)))
-        (reach_of (row_offsets (t.first +ℤ (pos (t.count / t.block) *ℤ t.jump)) (t.count % t.block) t.step))
+    ≡ joined_marks (stretched (reach_of (row_offsets t.first (t.count / t.block) t.jump)) (reach_of (row_offsets (pos 0) t.block t.step)))
+    (reach_of (row_offsets (t.first +ℤ (pos (t.count / t.block) *ℤ t.jump)) (t.count % t.block) t.step))
 turns-reach t h =
     let rest = reach_of (row_offsets (t.first +ℤ (pos (t.count / t.block) *ℤ t.jump)) (t.count % t.block) t.step) in
     ap reach_of (turns-rows t h)

@@ -6,6 +6,7 @@ pub mod Datatype
 pub mod Digest
 pub mod Falls
 pub mod Form
+pub mod Measure
 pub mod Range
 pub mod Reach
 pub mod Shape

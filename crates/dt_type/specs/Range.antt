@@ -1,4 +1,4 @@
-use Rattle.std.specs.Prelude.{Option, Some, None, ℕ, ℤ, pos, ◌+ℤ◌, ◌-ℤ◌, nat_abs}
+use Rattle.std.specs.Prelude.{Option, Some, None, ℕ, pos, ◌+ℤ◌, ◌-ℤ◌, nat_abs}
 use Rattle.dt_kinds.specs.Displacement.{FitsDisp}
 use Rattle.dt_map.specs.declared.typemap.Bounds.{Bounds}
 use Rattle.dt_map.specs.declared.typemap.Marks.{Marks}
@@ -12,6 +12,10 @@ ends_of (Some span) = span
 
 abbrev pub Fits : Marks → Type 0
 Fits span = FitsDisp span.lb × FitsDisp span.ub
+
+abbrev pub FitAll : Option Marks → Type 0
+FitAll None = Unit {0}
+FitAll (Some span) = Fits span
 
 -- the bounds: the marks, or the true bounds with the upper one rounded
 abbrev pub outer_ends : Marks → ℕ → Option Marks → Marks

@@ -1,5 +1,6 @@
-use Rattle.std.specs.Prelude.{Some, None, ℕ, ◌/◌, ◌%◌, ◌+ℤ◌, ◌*ℤ◌, ℤ, pos, List, [], ◌∷◌, map, length}
+use Rattle.std.specs.Prelude.{Option, Some, None, ℕ, ◌/◌, ◌%◌, ◌+ℤ◌, ◌*ℤ◌, ℤ, pos, List, [], ◌∷◌, map, length}
 use Rattle.std.specs.List.{flat_map}
+use Rattle.dt_map.specs.declared.typemap.Marks.{Marks}
 use Rattle.dt_map.specs.Constructors.{copies_at}
 use Rattle.dt_map.specs.Numbers.{below}
 use Rattle.dt_map.specs.Placing.{place}
@@ -48,9 +49,12 @@ placed_by (Each spots old) = copies_at (spot_offsets spots) (typemap_of old)
 placed_by (Seq parts) = placed_parts parts
 
 -- what a cover makes of the marks
+abbrev pub covered_marks : Cover → Option Marks → Option Marks
+covered_marks Keep marks = marks
+covered_marks (Erase marks) _ = Some marks
+
 abbrev pub covered : Cover → Marked → Marked
-covered Keep m = m
-covered (Erase marks) m = record { entries = m.entries; marks = Some marks }
+covered cover m = record { entries = m.entries; marks = covered_marks cover m.marks }
 
 -- the old types, and how many turns, spots or parts a shape lists
 abbrev pub olds_of : ShapeOf Seen → List Seen

@@ -2,12 +2,13 @@
 #![tactic(auto)]
 
 pub mod datatype;
+mod digest;
 pub mod fault;
 pub mod form;
-pub mod shape;
-mod digest;
+mod make;
 mod measures;
 mod range;
+pub mod shape;
 mod span;
 
 pub use datatype::{Datatype, Seen};

@@ -104,9 +104,7 @@ pub(crate) fn weight_by(form: &Form) -> u64
     ensures { result ≡ capped (spec.weight_by form.now) }
 {
     let items = items_of(form) as u64;
-    items
-        .saturating_add(1)
-        .saturating_add(weight_of_olds(form))
+    items.saturating_add(1).saturating_add(weight_of_olds(form))
 }
 
 /// The depth of the datatype that a form makes, up to the greatest `u64`.

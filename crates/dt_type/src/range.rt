@@ -4,7 +4,7 @@ ghost use Rattle.dt_kinds.specs.Displacement.{FitsDisp};
 ghost use Rattle.dt_map.specs.Numbers.{padding};
 ghost use Rattle.dt_type.specs.Datatype.{AreInRange};
 ghost use Rattle.dt_type.specs.Range as spec;
-ghost use Rattle.dt_type.specs.Range.{Fits};
+ghost use Rattle.dt_type.specs.Range.{Fits, FitAll};
 
 use crate::digest::Digest;
 use crate::span::Span;
@@ -40,6 +40,17 @@ fn narrow(span: Span) -> Marks
     }
 }
 
+/// Marks in range.
+pub(crate) fn narrow_marks(marks: &Option<Span>) -> Option<Marks>
+    requires { FitAll marks.now }
+    ensures { result ≡ marks.now }
+{
+    match marks {
+        None => None,
+        Some(marks) => Some(narrow(*marks)),
+    }
+}
+
 /// As much as makes a number of bytes a multiple of an alignment.
 fn padding_to(bytes: u128, align: u32) -> u32
     requires least { 1 ≤ align }
@@ -62,13 +73,13 @@ fn natural_ub(lb: i128, ub: i128, align: u32) -> i128
 }
 
 /// The bounds: the marks, or the true bounds with the upper one rounded.
-fn outer_ends(ends: Span, align: u32, marks: Option<Span>) -> Span
+fn outer_ends(ends: Span, align: u32, marks: &Option<Span>) -> Span
     requires ends { Fits ends }
     requires least { 1 ≤ align }
-    ensures { result ≡ spec.outer_ends ends align marks }
+    ensures { result ≡ spec.outer_ends ends align marks.now }
 {
     match marks {
-        Some(marks) => marks,
+        Some(marks) => *marks,
         None => Span {
             lb: ends.lb,
             ub: natural_ub(ends.lb, ends.ub, align),
@@ -77,10 +88,10 @@ fn outer_ends(ends: Span, align: u32, marks: Option<Span>) -> Span
 }
 
 /// All bounds, where they and the size are in range.
-pub(crate) fn bounds_from(digest: &Digest, marks: Option<Span>) -> Option<Bounds>
+pub(crate) fn bounds_from(digest: &Digest, marks: &Option<Span>) -> Option<Bounds>
     requires { 1 ≤ digest.now.align }
-    ensures value { IfSome result (λ b. b ≡ spec.bounds_from digest.now marks) }
-    ensures in_range { IsSome result ↔ AreInRange (spec.bounds_from digest.now marks) }
+    ensures value { IfSome result (λ b. b ≡ spec.bounds_from digest.now marks.now) }
+    ensures in_range { IsSome result ↔ AreInRange (spec.bounds_from digest.now marks.now) }
 {
     let ends = ends_of(digest.span);
     if digest.size > SIZE_MAX || !fits(ends) {

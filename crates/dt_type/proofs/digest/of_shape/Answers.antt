@@ -1,4 +1,4 @@
-use Rattle.std.proofs.Common.{◌≡◌, ◌∙◌, sym, ap}
+use Rattle.std.proofs.Common.{◌∙◌, sym, ap}
 use Rattle.dt_type.specs.Datatype.{typemap_of}
 use Rattle.dt_type.specs.Digest.{digest_of, repeated}
 use Rattle.dt_type.specs.Reach.{reach}

@@ -1,4 +1,4 @@
-use Rattle.std.proofs.Common.{◌≡◌, ◌∙◌}
+use Rattle.std.proofs.Common.{◌∙◌}
 use Rattle.dt_type.specs.Datatype.{typemap_of}
 use Rattle.dt_type.proofs.Digests.{digest-type}
 use Rattle.dt_type.proofs.digest.of_type.Goals as goal

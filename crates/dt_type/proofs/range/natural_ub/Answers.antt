@@ -1,6 +1,6 @@
 use mir.Syntax.{w128}
 use mir.Val.{to_z, of_z}
-use Rattle.std.proofs.Common.{◌≡◌, ◌∙◌, ap, sym, ◌+ℤ◌, ◌-ℤ◌, pos, nat_abs, arith, FitsSigned}
+use Rattle.std.proofs.Common.{◌≡◌, ◌+ℤ◌, ◌-ℤ◌, pos, nat_abs, arith, FitsSigned}
 use Rattle.std.proofs.lemmas.Int.{ints, to_z-of_z}
 use Rattle.dt_map.specs.Numbers.{padding}
 use Rattle.dt_type.proofs.Products.{same128}

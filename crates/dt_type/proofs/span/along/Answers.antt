@@ -1,6 +1,5 @@
 use mir.Syntax.{w128}
-use mir.Val.{to_z, of_z}
-use Rattle.std.proofs.Common.{◌≡◌, ◌∙◌, sym, subst, FitsSigned, ◌+ℤ◌, ◌*ℤ◌, pos}
+use Rattle.std.proofs.Common.{◌∙◌, sym, subst, FitsSigned}
 use Rattle.std.proofs.lemmas.Int.{to_z-of_z}
 use Rattle.dt_type.proofs.Products.{along_fits, read_back}
 use Rattle.dt_type.proofs.span.along.Goals as goal

@@ -1,6 +1,4 @@
-use mir.Syntax.{w128}
-use mir.Val.{to_z, of_z}
-use Rattle.std.proofs.Common.{◌≡◌, ◌∙◌, ◌+ℤ◌, ◌*ℤ◌, pos, ◌-◌, ap}
+use Rattle.std.proofs.Common.{◌≡◌, ◌+ℤ◌, ◌*ℤ◌, pos, ◌-◌}
 use Rattle.dt_type.proofs.Products.{same128}
 use Rattle.dt_type.proofs.Rows.{row_between}
 use Rattle.dt_type.proofs.span.row.Goals as goal

@@ -1,6 +1,4 @@
-use mir.Syntax.{w128}
-use mir.Val.{to_z, of_z}
-use Rattle.std.proofs.Common.{◌≡◌, ◌≤◌, arith, sym, subst}
+use Rattle.std.proofs.Common.{◌≡◌, arith, subst}
 use Rattle.dt_type.specs.Shape.{row_offsets}
 use Rattle.dt_type.specs.Span.{reach_of, IsNear}
 use Rattle.dt_type.proofs.Near.{row_near}

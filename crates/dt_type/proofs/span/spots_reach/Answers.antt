@@ -22,7 +22,8 @@ loop-spot-preserved c =
     let value = c.row_reach.ensures.value in
     let row : c.row_reach.result ≡ reach (row_offsets s.first s.copies s.step) = cc in
     let before = reach (spot_offsets (take c.loop-spot.spot-index c.args.spots.now)) in
-    let step = spots-step c.args.spots.now c.loop-spot.spot-index no_spot c.loop-spot-test.true in
-    (c.beside-reach.ensures ∙ ap (λ r. beside r c.row_reach.result) c.loop-spot.invariant.0 ∙ ap (beside before) row ∙ sym step,
-     subst IsNear (sym (ap (λ (r : Reach). r.span) c.beside-reach.ensures))
-     (joined_within (2 ^ 126) c.loop-spot.reach.span c.row_reach.result.span c.loop-spot.invariant.1 c.row_reach.ensures.near))
+    let step = spots-step c.args.spots.now c.loop-spot.spot-index no_spot c.loop-spot-test.true in (
+      c.beside-reach.ensures ∙ ap (λ r. beside r c.row_reach.result) c.loop-spot.invariant.0 ∙ ap (beside before) row ∙ sym step,
+      subst IsNear (sym (ap (λ (r : Reach). r.span) c.beside-reach.ensures))
+          (joined_within (2 ^ 126) c.loop-spot.reach.span c.row_reach.result.span c.loop-spot.invariant.1 c.row_reach.ensures.near),
+    )
