@@ -1,0 +1,16 @@
+pub mod Counted
+pub mod DigestBounds
+pub mod Digests
+pub mod Examples
+pub mod GridNear
+pub mod InRows
+pub mod Near
+pub mod OneEntry
+pub mod Products
+pub mod Reaches
+pub mod Refusals
+pub mod Rows
+pub mod Shown
+pub mod Spans
+pub mod TrueSpans
+pub mod TurnSpans

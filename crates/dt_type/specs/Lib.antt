@@ -1,0 +1,17 @@
+pub mod Arguments
+pub mod Arrays
+pub mod Conditions
+pub mod Constructors
+pub mod Datatype
+pub mod Digest
+pub mod Falls
+pub mod Form
+pub mod Measure
+pub mod Range
+pub mod Reach
+pub mod Shape
+pub mod Sound
+pub mod Span
+pub use Rattle.dt_map.specs.Bounds
+pub use Rattle.dt_map.specs.Placing
+pub use Rattle.dt_map.specs.Typemap
