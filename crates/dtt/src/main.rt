@@ -4,6 +4,8 @@
 mod call;
 mod lines;
 mod status;
+#[cfg(test)]
+mod tests;
 
 use call::dtt;
 use dt_base::{StdSink, StdSource};
