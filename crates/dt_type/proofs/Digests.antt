@@ -55,7 +55,7 @@ module _ (g : Kind → ℕ) where
       let rest = sized-copies xs m in
       omega arith
 
-length-copies : (xs : List ℤ) (m : Marked) → length (entries_at (all_at xs m)) ≡ length xs * length m.entries
+pub length-copies : (xs : List ℤ) (m : Marked) → length (entries_at (all_at xs m)) ≡ length xs * length m.entries
 length-copies [] m = omega arith
 length-copies (x ∷ xs) m =
     let more = length-append (shift x m.entries) (entries_at (all_at xs m)) in

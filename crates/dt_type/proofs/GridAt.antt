@@ -1,5 +1,5 @@
 -- The offset that nested turns give to a copy, turn by turn.
-use Rattle.std.specs.Prelude.{◌≡◌, Option, Some, None, ℕ, zero, suc, ◌+◌, ◌*◌, ◌-◌, ◌/◌, ◌%◌, ◌^◌, ◌<◌, ◌≤◌, ℤ, pos, ◌+ℤ◌, ◌≤ℤ◌, nat_abs, List, [], ◌∷◌, ◌++◌, map, length, take, drop, slice_get, get_or}
+use Rattle.std.specs.Prelude.{◌≡◌, Option, Some, None, ℕ, zero, suc, ◌+◌, ◌*◌, ◌-◌, ◌/◌, ◌%◌, ◌^◌, ◌<◌, ◌≤◌, ℤ, pos, ◌+ℤ◌, ◌*ℤ◌, ◌≤ℤ◌, nat_abs, List, [], ◌∷◌, ◌++◌, map, length, take, drop, slice_get, get_or}
 use Rattle.std.specs.List.{AllByRecursion}
 use Rattle.std.specs.Option.{option_map}
 use Rattle.std.proofs.Common.{refl, sym, ap, subst, ◌∙◌, arith, inl, inr}
@@ -14,7 +14,7 @@ use Rattle.dt_map.specs.Numbers.{below}
 use Rattle.dt_map.specs.Placing.{joined_marks}
 use Rattle.dt_type.specs.declared.shape.Turns.{Turns}
 use Rattle.dt_type.specs.Conditions.{AreTurns, AreNested}
-use Rattle.dt_type.specs.Shape.{turn_offset, turn_offsets, grid_offsets}
+use Rattle.dt_type.specs.Shape.{row_offsets, turn_offset, turn_offsets, grid_offsets}
 use Rattle.dt_type.specs.Span.{reach_of, point, IsNear}
 use Rattle.dt_type.proofs.GridNear.{grid_whole_near}
 use Rattle.dt_type.proofs.Lookups.{sum_at, slice_get-left, slice_get-right, grid-inner}
@@ -49,7 +49,7 @@ within_ends x (Some s) h near = let a = h.0 in let b = h.1 in let l = near.0 in 
 pub member_near : (xs : List ℤ) (k : ℕ) (d : ℤ) → k < length xs → IsNear (reach_of xs) → nat_abs (get_or xs k d) < 2 ^ 126
 member_near xs k d h near = within_ends (get_or xs k d) (reach_of xs) (between xs k d h) near
 
-below_at : (n q : ℕ) → q < n → slice_get (below n) q ≡ Some q
+pub below_at : (n q : ℕ) → q < n → slice_get (below n) q ≡ Some q
 below_at zero q h = absurd (omega arith)
 below_at (suc n) q h =
     let long = length-below n in
@@ -91,7 +91,7 @@ pos_left : (a b : ℕ) → 0 < a * b → 0 < a
 pos_left zero b h = let none : zero * b ≡ 0 = omega arith in absurd (omega arith)
 pos_left (suc a) b h = omega arith
 
-pos_right : (a b : ℕ) → 0 < a * b → 0 < b
+pub pos_right : (a b : ℕ) → 0 < a * b → 0 < b
 pos_right a zero h = let none : a * zero ≡ 0 = omega arith in absurd (omega arith)
 pos_right a (suc b) h = omega arith
 
@@ -168,3 +168,7 @@ module _ (ts : List Turns) (i : ℕ) (d : Turns) (copy left : ℕ) (lt : i < len
       let long : length (grid_offsets (take (i + 1) ts)) ≡ before * here.count = ap length next_grid ∙ length-sums (grid_offsets (take i ts)) (turn_offsets here) ∙ ap (λ n. before * n) counts in
       let where_at : copy / (left / here.count) < length (grid_offsets (take (i + 1) ts)) = subst (λ n. copy / n < length (grid_offsets (take (i + 1) ts))) (sym divided) (let p = place in omega arith) in
       subst (λ x. nat_abs x < 2 ^ 126) next (member_near (grid_offsets (take (i + 1) ts)) (copy / (left / here.count)) (pos 0) where_at (next_near all nested))
+
+pub row_at : (first step : ℤ) (n k : ℕ) → k < n → slice_get (row_offsets first n step) k ≡ Some (first +ℤ (pos k *ℤ step))
+row_at first step n k h =
+    slice_get-map (λ j. first +ℤ (pos j *ℤ step)) (below n) k ∙ ap (option_map (λ j. first +ℤ (pos j *ℤ step))) (below_at n k h)

@@ -1,3 +1,4 @@
+pub mod CopyAt
 pub mod Counted
 pub mod DigestBounds
 pub mod Digests

@@ -1,21 +1,26 @@
 -- An element of joined lists of one length each, by division.
-use Rattle.std.specs.Prelude.{◌≡◌, Option, Some, None, ℕ, zero, suc, ◌+◌, ◌*◌, ◌-◌, ◌/◌, ◌%◌, ◌<◌, ◌≤◌, ℤ, pos, ◌+ℤ◌, List, [], ◌∷◌, ◌++◌, map, length, slice_get, get_or}
+use Rattle.std.specs.Prelude.{◌≡◌, Option, Some, None, ℕ, zero, suc, ◌+◌, ◌*◌, ◌-◌, ◌/◌, ◌%◌, ◌<◌, ◌≤◌, ℤ, pos, ◌+ℤ◌, List, [], ◌∷◌, ◌++◌, map, length, drop, slice_get, get_or}
 use Rattle.std.specs.List.{flat_map}
 use Rattle.std.specs.Option.{option_map}
 use Rattle.std.proofs.Common.{refl, sym, ap, subst, ◌∙◌, arith, length-append}
 use Rattle.std.proofs.lemmas.Grind.{flat_map-append}
 use Rattle.std.proofs.lemmas.Int.{ints}
-use Rattle.std.proofs.lemmas.List.{map-append, append-nil, length-map}
+use Rattle.std.proofs.lemmas.List.{map-append, append-nil, length-map, drop_all}
 use Rattle.std.proofs.lemmas.Nat.{div-add-mod'}
 use Rattle.std.proofs.lemmas.Option.{slice_get-map, slice_get-get_or, get_or_from_slice_get}
 use Rattle.std.proofs.Math.Nat.{mod-lt, div-lt_iff_lt-mul}
+use Rattle.std.proofs.Math.Seq.{drop-cons}
 use Rattle.dt_map.specs.declared.typemap.Entry.{Entry}
 use Rattle.dt_map.specs.Constructors.{copies_at}
+use Rattle.dt_map.specs.Placing.{place}
 use Rattle.dt_map.specs.Typemap.{Marked, shift, shift_entry}
+use Rattle.dt_type.specs.declared.datatype.Seen.{Seen}
+use Rattle.dt_type.specs.declared.shape.ShapePartOf.{ShapePartOf}
 use Rattle.dt_type.specs.declared.shape.Turns.{Turns}
-use Rattle.dt_type.specs.Shape.{turn_offsets, grid_offsets}
-use Rattle.dt_type.proofs.Digests.{entries_at, all_at}
-use Rattle.dt_type.proofs.Reaches.{sums}
+use Rattle.dt_type.specs.Datatype.{typemap_of}
+use Rattle.dt_type.specs.Shape.{row_offsets, part_members, placed_parts, turn_offsets, grid_offsets}
+use Rattle.dt_type.proofs.Digests.{entries_at, all_at, length-copies}
+use Rattle.dt_type.proofs.Reaches.{sums, count-row}
 
 pub slice_get-left : {X : Type 0} (a b : List X) (j : ℕ) → j < length a → slice_get (a ++ b) j ≡ slice_get a j
 slice_get-left [] b j h = absurd (omega arith)
@@ -102,3 +107,42 @@ zero-sums ys = append-nil (map (λ y. pos 0 +ℤ y) ys) ∙ same ys
 pub grid-inner : (turns : List Turns) (t : Turns) → grid_offsets (turns ++ t ∷ []) ≡ sums (grid_offsets turns) (turn_offsets t)
 grid-inner [] t = sums-zero (turn_offsets t) ∙ sym (zero-sums (turn_offsets t))
 grid-inner (u ∷ turns) t = ap (sums (turn_offsets u)) (grid-inner turns t) ∙ sums-assoc (turn_offsets u) (grid_offsets turns) (turn_offsets t)
+
+-- the element at a place in joined lists: in the first of those that are left, or further on
+module _ {X A : Type 0} (f : X → List A) (xs : List X) (i : ℕ) (x d : X) (lt : i < length xs) (is : x ≡ get_or xs i d) where
+  unjoined : flat_map f (drop i xs) ≡ f x ++ flat_map f (drop (i + 1) xs)
+  unjoined =
+      let next : suc i ≡ i + 1 = omega arith in
+      ap (flat_map f) (drop-cons xs i d lt) ∙ ap (λ y. f y ++ flat_map f (drop (suc i) xs)) (sym is) ∙ ap (λ k. f x ++ flat_map f (drop k xs)) next
+
+  pub piece_here : (k : ℕ) → k < length (f x) → slice_get (flat_map f (drop i xs)) k ≡ slice_get (f x) k
+  piece_here k h = ap (λ ys. slice_get ys k) unjoined ∙ slice_get-left (f x) (flat_map f (drop (i + 1) xs)) k h
+
+  pub piece_later : (k : ℕ) → length (f x) ≤ k → slice_get (flat_map f (drop i xs)) k ≡ slice_get (flat_map f (drop (i + 1) xs)) (k - length (f x))
+  piece_later k h =
+      let e : k ≡ length (f x) + (k - length (f x)) = omega arith in
+      ap (λ ys. slice_get ys k) unjoined
+      ∙ ap (slice_get (f x ++ flat_map f (drop (i + 1) xs))) e
+      ∙ slice_get-right (f x) (flat_map f (drop (i + 1) xs)) (k - length (f x))
+
+flat_map-flat_map : {X Y A : Type 0} (f : Y → List A) (g : X → List Y) (xs : List X) → flat_map f (flat_map g xs) ≡ flat_map (λ x. flat_map f (g x)) xs
+flat_map-flat_map f g [] = refl
+flat_map-flat_map f g (x ∷ xs) = flat_map-append f (g x) (flat_map g xs) ∙ ap (λ ys. flat_map f (g x) ++ ys) (flat_map-flat_map f g xs)
+
+-- the entries of parts, part by part
+abbrev pub part_entries : ShapePartOf Seen → List Entry
+part_entries p = (place (part_members p)).entries
+
+pub entries-parts : (parts : List (ShapePartOf Seen)) → (placed_parts parts).entries ≡ flat_map part_entries parts
+entries-parts parts = flat_map-flat_map (λ (member : ℤ × Marked). shift member.0 member.1.entries) part_members parts
+
+-- past the last of them nothing is left
+pub none_left : {X A : Type 0} (f : X → List A) (xs : List X) (i k : ℕ) (ys : List A) (l : ℕ) → length xs ≤ i → slice_get (flat_map f (drop i xs)) k ≡ slice_get ys l → l < length ys → ⊥
+none_left f xs i k [] l past same within = absurd (omega arith)
+none_left f xs i k (y ∷ ys) l past same within =
+    let gone : slice_get (flat_map f (drop i xs)) k ≡ None = ap (λ zs. slice_get (flat_map f zs) k) (drop_all i xs past) in
+    let found = slice_get-get_or (y ∷ ys) l y within in
+    cc
+
+pub length-part : (p : ShapePartOf Seen) → length (part_entries p) ≡ p.copies * length (typemap_of p.old).entries
+length-part p = length-copies (row_offsets p.first p.copies p.step) (typemap_of p.old) ∙ ap (λ n. n * length (typemap_of p.old).entries) (count-row p.first p.step p.copies)
