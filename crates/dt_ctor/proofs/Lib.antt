@@ -2,3 +2,4 @@ pub mod Answers
 pub mod Blocks
 pub mod OneCopy
 pub mod Products
+pub mod RowPlaces
