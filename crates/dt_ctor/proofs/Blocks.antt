@@ -1,5 +1,5 @@
 -- Copies in blocks are turns.
-use Rattle.std.specs.Prelude.{◌≡◌, ℕ, zero, suc, ◌+◌, ◌*◌, ◌/◌, ◌%◌, ◌≤◌, max, ℤ, pos, ◌+ℤ◌, ◌*ℤ◌, nat_abs, List, [], ◌∷◌, ◌++◌, map}
+use Rattle.std.specs.Prelude.{◌≡◌, ℕ, zero, suc, ◌+◌, ◌*◌, ◌/◌, ◌%◌, max, ℤ, pos, ◌+ℤ◌, ◌*ℤ◌, nat_abs, List, [], ◌∷◌, map}
 use Rattle.std.specs.List.{flat_map}
 use Rattle.std.proofs.Common.{refl, sym, ap, subst, ◌∙◌, arith}
 use Rattle.std.proofs.Math.IntN.{+ℤ_idl, +ℤ_idr, zero-*ℤ}
@@ -15,7 +15,7 @@ use Rattle.dt_type.specs.declared.shape.Turns.{Turns}
 use Rattle.dt_type.specs.Conditions.{AreTurns}
 use Rattle.dt_type.specs.Constructors.{contiguous_offsets, hvector_offsets, vector_offsets}
 use Rattle.dt_type.specs.Datatype.{typemap_of}
-use Rattle.dt_type.specs.Shape.{turn_offset, turn_offsets, grid_offsets}
+use Rattle.dt_type.specs.Shape.{turn_offset, turn_offsets}
 use Rattle.dt_type.proofs.InRows.{in_rows}
 use Rattle.dt_ctor.specs.Places.{Places}
 use Rattle.dt_ctor.proofs.Products.{sum_times, product_times}

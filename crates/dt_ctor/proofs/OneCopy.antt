@@ -1,5 +1,5 @@
 -- One copy at 0 is the typemap itself.
-use Rattle.std.specs.Prelude.{◌≡◌, Option, Some, None, ℤ, pos, ◌+ℤ◌, List, [], ◌∷◌, ◌++◌}
+use Rattle.std.specs.Prelude.{◌≡◌, Option, Some, None, ℤ, pos, ◌+ℤ◌, List, [], ◌∷◌}
 use Rattle.std.proofs.Common.{refl, sym, ap, subst, ◌∙◌}
 use Rattle.std.proofs.Math.IntN.{+ℤ_idr}
 use Rattle.std.proofs.lemmas.List.{append-nil}
@@ -7,7 +7,7 @@ use Rattle.dt_map.specs.declared.typemap.Entry.{Entry}
 use Rattle.dt_map.specs.declared.typemap.Marks.{Marks}
 use Rattle.dt_map.specs.Constructors.{copies_at}
 use Rattle.dt_map.specs.Placing.{joined_marks}
-use Rattle.dt_map.specs.Typemap.{Marked, shift, shift_entry, shift_marks}
+use Rattle.dt_map.specs.Typemap.{Marked, shift, shift_marks}
 use Rattle.dt_type.specs.declared.datatype.Seen.{Seen}
 use Rattle.dt_type.specs.declared.form.FormOf.TheVariants.{Dup}
 use Rattle.dt_type.specs.declared.shape.Cover.TheVariants.{Erase}

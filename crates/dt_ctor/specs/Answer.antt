@@ -1,4 +1,4 @@
-use Rattle.std.specs.Prelude.{◌≡◌, ◌≤◌, ◌<◌, IsTrue}
+use Rattle.std.specs.Prelude.{◌≡◌, ◌≤◌, ◌<◌, IsTrue, Result, MatchResult}
 use Rattle.dt_type.specs.declared.datatype.Seen.{Seen}
 use Rattle.dt_type.specs.declared.fault.CtorFault.{CtorFault}
 use Rattle.dt_type.specs.declared.fault.CtorFault.TheVariants.{BadArgument, Overflow, TooDeep, TooHeavy, NoMemory}
@@ -25,3 +25,11 @@ IsCause form Overflow = IsTrue (takes_arguments form) × (¬ IsInRange (map_by f
 IsCause form TooDeep = IsTrue (takes_arguments form) × IsInRange (map_by form) × (64 < depth_by form)
 IsCause form TooHeavy = IsTrue (takes_arguments form) × IsInRange (map_by form) × (depth_by form ≤ 64) × (65536 < weight_by form)
 IsCause form NoMemory = IsTrue (takes_arguments form)
+
+-- the answer of a constructor
+abbrev pub IsAnswer : FormOf Seen → Result Seen CtorFault → Type 0
+IsAnswer form answer = MatchResult answer (IsMade form) (IsCause form)
+
+-- the answer of what only want of memory refuses
+abbrev pub IfMemory : {T : Type 0} → Result T CtorFault → (T → Type 0) → Type 0
+IfMemory answer P = MatchResult answer P (λ fault. fault ≡ NoMemory)

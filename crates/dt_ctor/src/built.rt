@@ -1,6 +1,6 @@
 //! What all constructors share: numbers of the old type, want of memory, and the door of `dt_type`.
-ghost use Rattle.std.specs.Prelude.{◌≡◌, ◌≤◌, ◌^◌, ◌*ℤ◌, MatchResult, nat_abs, IsTrue};
-ghost use Rattle.dt_ctor.specs.Answer.{IsMade, IsCause};
+ghost use Rattle.std.specs.Prelude.{◌≡◌, ◌≤◌, ◌^◌, ◌*ℤ◌, nat_abs, IsTrue};
+ghost use Rattle.dt_ctor.specs.Answer.{IsAnswer, IfMemory};
 ghost use Rattle.dt_ctor.specs.Places.{Places};
 ghost use Rattle.dt_map.specs.Bounds.{extent_of as extent_by};
 ghost use Rattle.dt_type.specs.Arguments.{takes_arguments};
@@ -17,7 +17,7 @@ use std::alloc::Global;
 pub(crate) fn built(alloc: Global, shape: Shape, form: Form) -> Result<Datatype, CtorFault>
     requires places { Places shape form }
     requires arguments { IsTrue (takes_arguments form) }
-    ensures { MatchResult result (IsMade form) (IsCause form) }
+    ensures { IsAnswer form result }
 {
     built_under(alloc, shape, Cover::Keep, form)
 }
@@ -31,7 +31,7 @@ pub(crate) fn built_under(
 ) -> Result<Datatype, CtorFault>
     requires shape { IsShapeFor shape form }
     requires places { covered cover (placed_by shape) ≡ map_by form }
-    ensures { MatchResult result (IsMade form) (IsCause form) }
+    ensures { IsAnswer form result }
 {
     match Datatype::make(alloc, shape, cover, form) {
         Ok(made) => Ok(made),
@@ -41,7 +41,7 @@ pub(crate) fn built_under(
 
 /// One more owner of a datatype.
 pub(crate) fn shared(old: &Datatype) -> Result<Datatype, CtorFault>
-    ensures { MatchResult result (λ t. t ≡ old.now) (λ fault. fault ≡ CtorFault.NoMemory) }
+    ensures { IfMemory result (λ t. t ≡ old.now) }
 {
     match old.share() {
         Ok(old) => Ok(old),
@@ -69,7 +69,7 @@ pub(crate) fn extents(times: i32, extent: i128) -> i128
 
 /// A list of arguments, to be kept.
 pub(crate) fn copied<T: Copy>(alloc: Global, items: &[T]) -> Result<Items<T>, CtorFault>
-    ensures { MatchResult result (λ kept. kept ≡ items.now) (λ fault. fault ≡ CtorFault.NoMemory) }
+    ensures { IfMemory result (λ kept. kept ≡ items.now) }
 {
     match Items::from_slice(alloc, items) {
         Ok(kept) => Ok(kept),

@@ -1,6 +1,6 @@
 //! Constructors whose copies are in blocks of one length, at one distance.
-ghost use Rattle.std.specs.Prelude.{◌≡◌, ◌≤◌, MatchResult};
-ghost use Rattle.dt_ctor.specs.Answer.{IsMade, IsCause};
+ghost use Rattle.std.specs.Prelude.{◌≡◌, ◌≤◌};
+ghost use Rattle.dt_ctor.specs.Answer.{IsAnswer, IfMemory};
 ghost use Rattle.dt_ctor.specs.Places.{Places};
 ghost use Rattle.dt_type.specs.Conditions.{IsFactor, AreTurns};
 ghost use Rattle.dt_type.specs.Constructors.{hvector_offsets};
@@ -40,7 +40,7 @@ fn blocks_of(
     old: &Datatype,
 ) -> Result<Shape, CtorFault>
     requires { IsFactor jump }
-    ensures { MatchResult result (λ s. Places s (FormOf.Hvector count block jump old.now)) (λ fault. fault ≡ CtorFault.NoMemory) }
+    ensures { IfMemory result (λ s. Places s (FormOf.Hvector count block jump old.now)) }
 {
     let each = turns_of(
         count.unsigned_abs(),
@@ -61,7 +61,7 @@ fn blocks_of(
 /// negative.
 #[tactic(auto, using(crate::proofs::Answers::answers))]
 pub fn contiguous(alloc: Global, count: i32, old: &Datatype) -> Result<Datatype, CtorFault>
-    ensures { let form = FormOf.Contiguous count old.now in MatchResult result (IsMade form) (IsCause form) }
+    ensures { IsAnswer (FormOf.Contiguous count old.now) result }
 {
     if count < 0 {
         return Err(CtorFault::BadArgument);
@@ -85,7 +85,7 @@ pub fn vector(
     stride: i32,
     old: &Datatype,
 ) -> Result<Datatype, CtorFault>
-    ensures { let form = FormOf.Vector count block stride old.now in MatchResult result (IsMade form) (IsCause form) }
+    ensures { IsAnswer (FormOf.Vector count block stride old.now) result }
 {
     if count < 0 || block < 0 {
         return Err(CtorFault::BadArgument);
@@ -111,7 +111,7 @@ pub fn hvector(
     stride: i64,
     old: &Datatype,
 ) -> Result<Datatype, CtorFault>
-    ensures { let form = FormOf.Hvector count block stride old.now in MatchResult result (IsMade form) (IsCause form) }
+    ensures { IsAnswer (FormOf.Hvector count block stride old.now) result }
 {
     if count < 0 || block < 0 {
         return Err(CtorFault::BadArgument);

@@ -1,7 +1,7 @@
 //! Constructors that list the places of their blocks.
-ghost use Rattle.std.specs.Prelude.{◌≡◌, ◌≤◌, ◌^◌, ◌++◌, [], ◌∷◌, nat_abs, MatchResult};
+ghost use Rattle.std.specs.Prelude.{◌≡◌, ◌≤◌, ◌^◌, ◌++◌, [], ◌∷◌, nat_abs};
 ghost use Rattle.std.specs.List.{AllByRecursion, list_all};
-ghost use Rattle.dt_ctor.specs.Answer.{IsMade, IsCause};
+ghost use Rattle.dt_ctor.specs.Answer.{IsAnswer, IfMemory};
 ghost use Rattle.dt_ctor.specs.Places.{Places};
 ghost use Rattle.dt_ctor.specs.Rows.{int_row, addr_row};
 ghost use Rattle.dt_type.specs.Arguments.{is_count};
@@ -42,7 +42,7 @@ fn int_row_of(extent: i128, len: i32, disp: i32) -> Spot
 fn add_row(rows: &mut Items<Spot>, row: Spot) -> Result<(), CtorFault>
     requires rows { AllByRecursion IsSpot rows.old }
     requires row { IsSpot row }
-    ensures added { MatchResult result (λ done. rows.new ≡ rows.old ++ row ∷ []) (λ fault. fault ≡ CtorFault.NoMemory) }
+    ensures added { IfMemory result (λ done. rows.new ≡ rows.old ++ row ∷ []) }
     ensures numbers { AllByRecursion IsSpot rows.new }
 {
     match rows.push(row) {
@@ -67,7 +67,7 @@ fn are_addr_blocks(blocks: &[AddrBlock]) -> bool
 
 /// A row of copies for each block, from its displacement in extents on.
 fn int_blocks_of(alloc: Global, blocks: &[IntBlock], old: &Datatype) -> Result<Shape, CtorFault>
-    ensures { MatchResult result (λ s. Places s (FormOf.Indexed blocks.now old.now)) (λ fault. fault ≡ CtorFault.NoMemory) }
+    ensures { IfMemory result (λ s. Places s (FormOf.Indexed blocks.now old.now)) }
 {
     let extent = extent_of(old);
     let mut spots = Items::new(alloc);
@@ -82,7 +82,7 @@ fn int_blocks_of(alloc: Global, blocks: &[IntBlock], old: &Datatype) -> Result<S
 
 /// A row of copies for each block, from its displacement in bytes on.
 fn addr_blocks_of(alloc: Global, blocks: &[AddrBlock], old: &Datatype) -> Result<Shape, CtorFault>
-    ensures { MatchResult result (λ s. Places s (FormOf.Hindexed blocks.now old.now)) (λ fault. fault ≡ CtorFault.NoMemory) }
+    ensures { IfMemory result (λ s. Places s (FormOf.Hindexed blocks.now old.now)) }
 {
     let extent = extent_of(old);
     let mut spots = Items::new(alloc);
@@ -102,7 +102,7 @@ fn int_disps_of(
     disps: &[i32],
     old: &Datatype,
 ) -> Result<Shape, CtorFault>
-    ensures { MatchResult result (λ s. Places s (FormOf.IndexedBlock block disps.now old.now)) (λ fault. fault ≡ CtorFault.NoMemory) }
+    ensures { IfMemory result (λ s. Places s (FormOf.IndexedBlock block disps.now old.now)) }
 {
     let extent = extent_of(old);
     let mut spots = Items::new(alloc);
@@ -122,7 +122,7 @@ fn addr_disps_of(
     disps: &[i64],
     old: &Datatype,
 ) -> Result<Shape, CtorFault>
-    ensures { MatchResult result (λ s. Places s (FormOf.HindexedBlock block disps.now old.now)) (λ fault. fault ≡ CtorFault.NoMemory) }
+    ensures { IfMemory result (λ s. Places s (FormOf.HindexedBlock block disps.now old.now)) }
 {
     let extent = extent_of(old);
     let mut spots = Items::new(alloc);
@@ -139,7 +139,7 @@ fn addr_disps_of(
 /// `MPI_Type_indexed`). `BadArgument` where a length is negative. The time is that of reading the list.
 #[tactic(auto, using(crate::proofs::Answers::answers))]
 pub fn indexed(alloc: Global, blocks: &[IntBlock], old: &Datatype) -> Result<Datatype, CtorFault>
-    ensures { let form = FormOf.Indexed blocks.now old.now in MatchResult result (IsMade form) (IsCause form) }
+    ensures { IsAnswer (FormOf.Indexed blocks.now old.now) result }
 {
     if !are_int_blocks(blocks) {
         return Err(CtorFault::BadArgument);
@@ -156,7 +156,7 @@ pub fn indexed(alloc: Global, blocks: &[IntBlock], old: &Datatype) -> Result<Dat
 /// `MPI_Type_create_hindexed`). `BadArgument` where a length is negative. The time is that of reading the list.
 #[tactic(auto, using(crate::proofs::Answers::answers))]
 pub fn hindexed(alloc: Global, blocks: &[AddrBlock], old: &Datatype) -> Result<Datatype, CtorFault>
-    ensures { let form = FormOf.Hindexed blocks.now old.now in MatchResult result (IsMade form) (IsCause form) }
+    ensures { IsAnswer (FormOf.Hindexed blocks.now old.now) result }
 {
     if !are_addr_blocks(blocks) {
         return Err(CtorFault::BadArgument);
@@ -178,7 +178,7 @@ pub fn indexed_block(
     disps: &[i32],
     old: &Datatype,
 ) -> Result<Datatype, CtorFault>
-    ensures { let form = FormOf.IndexedBlock block disps.now old.now in MatchResult result (IsMade form) (IsCause form) }
+    ensures { IsAnswer (FormOf.IndexedBlock block disps.now old.now) result }
 {
     if block < 0 {
         return Err(CtorFault::BadArgument);
@@ -201,7 +201,7 @@ pub fn hindexed_block(
     disps: &[i64],
     old: &Datatype,
 ) -> Result<Datatype, CtorFault>
-    ensures { let form = FormOf.HindexedBlock block disps.now old.now in MatchResult result (IsMade form) (IsCause form) }
+    ensures { IsAnswer (FormOf.HindexedBlock block disps.now old.now) result }
 {
     if block < 0 {
         return Err(CtorFault::BadArgument);

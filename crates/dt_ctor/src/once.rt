@@ -1,6 +1,6 @@
 //! Constructors that place the old type once.
-ghost use Rattle.std.specs.Prelude.{◌≡◌, MatchResult, IsErrOf};
-ghost use Rattle.dt_ctor.specs.Answer.{IsMade, IsCause};
+ghost use Rattle.std.specs.Prelude.{◌≡◌, IsErrOf};
+ghost use Rattle.dt_ctor.specs.Answer.{IsAnswer, IfMemory};
 ghost use Rattle.dt_ctor.specs.Places.{Places};
 
 use crate::built::{built, built_under, shared};
@@ -12,7 +12,7 @@ use std::alloc::Global;
 /// A shape that places one copy at 0.
 #[tactic(auto, using(crate::proofs::OneCopy::placed_once))]
 fn one_of(alloc: Global, old: &Datatype) -> Result<Shape, CtorFault>
-    ensures { MatchResult result (λ s. Places s (FormOf.Dup old.now)) (λ fault. fault ≡ CtorFault.NoMemory) }
+    ensures { IfMemory result (λ s. Places s (FormOf.Dup old.now)) }
 {
     Ok(ShapeOf::Grid {
         turns: Items::new(alloc),
@@ -24,7 +24,7 @@ fn one_of(alloc: Global, old: &Datatype) -> Result<Shape, CtorFault>
 /// `MPI_Type_create_resized`). It takes every `lb` and `extent`; where one of the marks is out of range it answers `Overflow`.
 #[tactic(auto, using(crate::proofs::Answers::answers))]
 pub fn resized(alloc: Global, lb: i64, extent: i64, old: &Datatype) -> Result<Datatype, CtorFault>
-    ensures answer { let form = FormOf.Resized lb extent old.now in MatchResult result (IsMade form) (IsCause form) }
+    ensures answer { IsAnswer (FormOf.Resized lb extent old.now) result }
     ensures arguments { ¬ IsErrOf result CtorFault.BadArgument }
 {
     let Ok(ub) = i64::try_from(i128::from(lb) + i128::from(extent)) else {
@@ -43,7 +43,7 @@ pub fn resized(alloc: Global, lb: i64, extent: i64, old: &Datatype) -> Result<Da
 /// weighs too much.
 #[tactic(auto, using(crate::proofs::Answers::answers))]
 pub fn dup(alloc: Global, old: &Datatype) -> Result<Datatype, CtorFault>
-    ensures answer { let form = FormOf.Dup old.now in MatchResult result (IsMade form) (IsCause form) }
+    ensures answer { IsAnswer (FormOf.Dup old.now) result }
     ensures arguments { ¬ IsErrOf result CtorFault.BadArgument }
     ensures in_range { ¬ IsErrOf result CtorFault.Overflow }
 {

@@ -1,7 +1,7 @@
 //! The constructor that places several old types.
-ghost use Rattle.std.specs.Prelude.{◌≡◌, ◌++◌, [], ◌∷◌, MatchResult};
+ghost use Rattle.std.specs.Prelude.{◌≡◌, ◌++◌, [], ◌∷◌};
 ghost use Rattle.std.specs.List.{AllByRecursion, list_all};
-ghost use Rattle.dt_ctor.specs.Answer.{IsMade, IsCause};
+ghost use Rattle.dt_ctor.specs.Answer.{IsAnswer, IfMemory};
 ghost use Rattle.dt_ctor.specs.Places.{Places};
 ghost use Rattle.dt_ctor.specs.Rows.{part_row};
 ghost use Rattle.dt_type.specs.Arguments.{is_count};
@@ -23,7 +23,7 @@ fn are_parts(parts: &[Part]) -> bool
 
 /// The row of a part, by the extent of its own old type.
 fn row_of(part: &Part) -> Result<ShapePart, CtorFault>
-    ensures { MatchResult result (λ row. (row ≡ part_row part.now) × IsShapePart row) (λ fault. fault ≡ CtorFault.NoMemory) }
+    ensures { IfMemory result (λ row. (row ≡ part_row part.now) × IsShapePart row) }
 {
     Ok(ShapePartOf {
         first: i128::from(part.disp),
@@ -35,7 +35,7 @@ fn row_of(part: &Part) -> Result<ShapePart, CtorFault>
 
 /// The same part again.
 fn copy_of(part: &Part) -> Result<Part, CtorFault>
-    ensures { MatchResult result (λ copy. copy ≡ part.now) (λ fault. fault ≡ CtorFault.NoMemory) }
+    ensures { IfMemory result (λ copy. copy ≡ part.now) }
 {
     Ok(PartOf {
         len: part.len,
@@ -48,7 +48,7 @@ fn copy_of(part: &Part) -> Result<Part, CtorFault>
 fn add_row(rows: &mut Items<ShapePart>, row: ShapePart) -> Result<(), CtorFault>
     requires rows { AllByRecursion IsShapePart rows.old }
     requires row { IsShapePart row }
-    ensures added { MatchResult result (λ done. rows.new ≡ rows.old ++ row ∷ []) (λ fault. fault ≡ CtorFault.NoMemory) }
+    ensures added { IfMemory result (λ done. rows.new ≡ rows.old ++ row ∷ []) }
     ensures numbers { AllByRecursion IsShapePart rows.new }
 {
     match rows.push(row) {
@@ -59,7 +59,7 @@ fn add_row(rows: &mut Items<ShapePart>, row: ShapePart) -> Result<(), CtorFault>
 
 /// A row of copies for each part.
 fn rows_of(alloc: Global, parts: &[Part]) -> Result<Shape, CtorFault>
-    ensures { MatchResult result (λ s. Places s (FormOf.Struct parts.now)) (λ fault. fault ≡ CtorFault.NoMemory) }
+    ensures { IfMemory result (λ s. Places s (FormOf.Struct parts.now)) }
 {
     let mut rows = Items::new(alloc);
     for part in parts {
@@ -70,7 +70,7 @@ fn rows_of(alloc: Global, parts: &[Part]) -> Result<Shape, CtorFault>
 
 /// The form of a struct.
 fn form_of(alloc: Global, parts: &[Part]) -> Result<Form, CtorFault>
-    ensures { MatchResult result (λ form. form ≡ FormOf.Struct parts.now) (λ fault. fault ≡ CtorFault.NoMemory) }
+    ensures { IfMemory result (λ form. form ≡ FormOf.Struct parts.now) }
 {
     let mut copies = Items::new(alloc);
     for part in parts {
@@ -85,7 +85,7 @@ fn form_of(alloc: Global, parts: &[Part]) -> Result<Form, CtorFault>
 /// `MPI_Type_create_struct`). `BadArgument` where a length is negative. The time is that of reading the list.
 #[tactic(auto, using(crate::proofs::Answers::answers))]
 pub fn structure(alloc: Global, parts: &[Part]) -> Result<Datatype, CtorFault>
-    ensures { let form = FormOf.Struct parts.now in MatchResult result (IsMade form) (IsCause form) }
+    ensures { IsAnswer (FormOf.Struct parts.now) result }
 {
     if !are_parts(parts) {
         return Err(CtorFault::BadArgument);

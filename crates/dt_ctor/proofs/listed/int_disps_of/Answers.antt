@@ -1,6 +1,5 @@
 use mir.Syntax.{w32}
 use mir.Val.{to_z, of_z}
-use Rattle.std.proofs.Common.{sym}
 use Rattle.std.proofs.lemmas.Int.{to_z-of_z}
 use Rattle.dt_ctor.proofs.Answers.{placed_again}
 use Rattle.dt_ctor.proofs.RowPlaces.{int_disps_finished}
