@@ -5,6 +5,7 @@ pub mod datatype;
 mod digest;
 pub mod fault;
 pub mod form;
+mod entries;
 mod make;
 mod measures;
 mod range;
