@@ -1,8 +1,8 @@
 -- The offset that nested turns give to a copy, turn by turn.
-use Rattle.std.specs.Prelude.{◌≡◌, Option, Some, None, ℕ, zero, suc, ◌+◌, ◌*◌, ◌-◌, ◌/◌, ◌%◌, ◌^◌, ◌<◌, ◌≤◌, ℤ, pos, ◌+ℤ◌, ◌*ℤ◌, ◌≤ℤ◌, nat_abs, List, [], ◌∷◌, ◌++◌, map, length, take, drop, slice_get, get_or}
+use Rattle.std.specs.Prelude.{◌≡◌, Option, Some, None, ℕ, zero, suc, ◌+◌, ◌*◌, ◌/◌, ◌%◌, ◌^◌, ◌<◌, ℤ, pos, ◌+ℤ◌, ◌*ℤ◌, ◌≤ℤ◌, nat_abs, List, [], ◌∷◌, length, take, drop, slice_get, get_or}
 use Rattle.std.specs.List.{AllByRecursion}
 use Rattle.std.specs.Option.{option_map}
-use Rattle.std.proofs.Common.{refl, sym, ap, subst, ◌∙◌, arith, inl, inr}
+use Rattle.std.proofs.Common.{sym, ap, subst, ◌∙◌, arith, inl, inr}
 use Rattle.std.proofs.lemmas.Bool.{cases_lt}
 use Rattle.std.proofs.lemmas.Int.{ints, clamps}
 use Rattle.std.proofs.lemmas.List.{take_all, take_more}
@@ -54,11 +54,11 @@ below_at zero q h = absurd (omega arith)
 below_at (suc n) q h =
     let long = length-below n in
     elim (cases_lt q n) [
-      inl lt ↦ slice_get-left (below n) (n ∷ []) q (omega arith) ∙ below_at n q lt
-    | inr ge ↦
-        let last : q ≡ length (below n) + 0 = omega arith in
-        let same : n ≡ q = omega arith in
-        ap (slice_get (below (suc n))) last ∙ slice_get-right (below n) (n ∷ []) 0 ∙ ap Some same
+      | inl lt ↦ slice_get-left (below n) (n ∷ []) q (omega arith) ∙ below_at n q lt
+      | inr ge ↦
+          let last : q ≡ length (below n) + 0 = omega arith in
+          let same : n ≡ q = omega arith in
+          ap (slice_get (below (suc n))) last ∙ slice_get-right (below n) (n ∷ []) 0 ∙ ap Some same
     ]
 
 turn_get : (t : Turns) (q : ℕ) → q < t.count → get_or (turn_offsets t) q (pos 0) ≡ turn_offset t q
@@ -157,8 +157,8 @@ module _ (ts : List Turns) (i : ℕ) (d : Turns) (copy left : ℕ) (lt : i < len
   next_near : AllByRecursion AreTurns ts → AreNested ts → IsNear (reach_of (grid_offsets (take (i + 1) ts)))
   next_near all nested =
       elim (cases_lt (i + 1) (length ts)) [
-        inl more ↦ grid_near ts nested (i + 1) more
-      | inr last ↦ subst (λ (us : List Turns). IsNear (reach_of (grid_offsets us))) (sym (take_all (i + 1) ts last)) (grid_whole_near ts all nested)
+        | inl more ↦ grid_near ts nested (i + 1) more
+        | inr last ↦ subst (λ (us : List Turns). IsNear (reach_of (grid_offsets us))) (sym (take_all (i + 1) ts last)) (grid_whole_near ts all nested)
       ]
 
   pub next_fits : AllByRecursion AreTurns ts → AreNested ts

@@ -2,6 +2,7 @@ pub mod CopyAt
 pub mod Counted
 pub mod DigestBounds
 pub mod Digests
+pub mod EntryFits
 pub mod Examples
 pub mod GridAt
 pub mod GridNear

@@ -1,13 +1,13 @@
 -- An element of joined lists of one length each, by division.
-use Rattle.std.specs.Prelude.{◌≡◌, Option, Some, None, ℕ, zero, suc, ◌+◌, ◌*◌, ◌-◌, ◌/◌, ◌%◌, ◌<◌, ◌≤◌, ℤ, pos, ◌+ℤ◌, List, [], ◌∷◌, ◌++◌, map, length, drop, slice_get, get_or}
+use Rattle.std.specs.Prelude.{◌≡◌, None, ℕ, zero, suc, ◌+◌, ◌*◌, ◌-◌, ◌/◌, ◌%◌, ◌<◌, ◌≤◌, ℤ, pos, ◌+ℤ◌, List, [], ◌∷◌, ◌++◌, map, length, drop, slice_get, get_or}
 use Rattle.std.specs.List.{flat_map}
 use Rattle.std.specs.Option.{option_map}
-use Rattle.std.proofs.Common.{refl, sym, ap, subst, ◌∙◌, arith, length-append}
+use Rattle.std.proofs.Common.{refl, sym, ap, ◌∙◌, arith}
 use Rattle.std.proofs.lemmas.Grind.{flat_map-append}
 use Rattle.std.proofs.lemmas.Int.{ints}
 use Rattle.std.proofs.lemmas.List.{map-append, append-nil, length-map, drop_all}
 use Rattle.std.proofs.lemmas.Nat.{div-add-mod'}
-use Rattle.std.proofs.lemmas.Option.{slice_get-map, slice_get-get_or, get_or_from_slice_get}
+use Rattle.std.proofs.lemmas.Option.{slice_get-map, slice_get-get_or}
 use Rattle.std.proofs.Math.Nat.{mod-lt, div-lt_iff_lt-mul}
 use Rattle.std.proofs.Math.Seq.{drop-cons}
 use Rattle.dt_map.specs.declared.typemap.Entry.{Entry}
@@ -19,7 +19,7 @@ use Rattle.dt_type.specs.declared.shape.ShapePartOf.{ShapePartOf}
 use Rattle.dt_type.specs.declared.shape.Turns.{Turns}
 use Rattle.dt_type.specs.Datatype.{typemap_of}
 use Rattle.dt_type.specs.Shape.{row_offsets, part_members, placed_parts, turn_offsets, grid_offsets}
-use Rattle.dt_type.proofs.Digests.{entries_at, all_at, length-copies}
+use Rattle.dt_type.proofs.Digests.{length-copies}
 use Rattle.dt_type.proofs.Reaches.{sums, count-row}
 
 pub slice_get-left : {X : Type 0} (a b : List X) (j : ℕ) → j < length a → slice_get (a ++ b) j ≡ slice_get a j
@@ -98,10 +98,10 @@ sums-zero (x ∷ xs) = let e : x +ℤ pos 0 ≡ x = omega (arith, ints) in ap (�
 
 zero-sums : (ys : List ℤ) → sums (pos 0 ∷ []) ys ≡ ys
 zero-sums ys = append-nil (map (λ y. pos 0 +ℤ y) ys) ∙ same ys
-    where
-      same : (ys : List ℤ) → map (λ y. pos 0 +ℤ y) ys ≡ ys
-      same [] = refl
-      same (y ∷ ys) = let e : pos 0 +ℤ y ≡ y = omega (arith, ints) in ap (λ u. u ∷ map (λ v. pos 0 +ℤ v) ys) e ∙ ap (λ us. y ∷ us) (same ys)
+  where
+    same : (ys : List ℤ) → map (λ y. pos 0 +ℤ y) ys ≡ ys
+    same [] = refl
+    same (y ∷ ys) = let e : pos 0 +ℤ y ≡ y = omega (arith, ints) in ap (λ u. u ∷ map (λ v. pos 0 +ℤ v) ys) e ∙ ap (λ us. y ∷ us) (same ys)
 
 -- one more dimension, innermost
 pub grid-inner : (turns : List Turns) (t : Turns) → grid_offsets (turns ++ t ∷ []) ≡ sums (grid_offsets turns) (turn_offsets t)

@@ -1,7 +1,8 @@
 //! The typemap read back, entry by entry.
-ghost use Rattle.std.specs.Prelude.{◌≡◌, ℕ, ◌*◌, ◌<◌, ◌+ℤ◌, pos, length, get_or, slice_get};
+ghost use Rattle.std.specs.Prelude.{◌≡◌, ℕ, ◌*◌, ◌<◌, ◌+ℤ◌, pos, length, get_or, slice_get, IfSome};
 ghost use Rattle.std.specs.List.{AllByRecursion};
 ghost use Rattle.std.specs.Option.{option_map};
+ghost use Rattle.dt_kinds.specs.Displacement.{FitsDisp};
 ghost use Rattle.dt_map.specs.Constructors.{copies_at};
 ghost use Rattle.dt_map.specs.Placing.{place};
 ghost use Rattle.dt_map.specs.Typemap.{shift_entry};
@@ -10,8 +11,9 @@ ghost use Rattle.dt_type.specs.Datatype.{typemap_of, entries_of, depth_of};
 ghost use Rattle.dt_type.specs.Shape.{row_offsets, turn_offset, grid_offsets, spot_offsets, part_members, placed_parts};
 
 use crate::datatype::Datatype;
-use crate::shape::{ShapePart, Spot, Turns};
+use crate::shape::{ShapeOf, ShapePart, Spot, Turns};
 use crate::span::along;
+use dt_map::Entry;
 
 /// The offset of one of the turns.
 fn turn_at(turns: &Turns, turn: u64) -> i128
@@ -111,4 +113,53 @@ fn in_row(first: i128, copies: u32, step: i128, old: &Datatype, entry: u64) -> (
     let each = old.bounds().elements;
     let offset = along(first, entry / each, step);
     (offset, entry % each)
+}
+
+/// An entry so many bytes further on.
+fn moved(entry: Option<Entry>, offset: i128) -> Option<Entry>
+    requires { IfSome entry (λ e. FitsDisp (e.disp +ℤ offset)) }
+    ensures { result ≡ option_map (shift_entry offset) entry }
+{
+    match entry {
+        None => None,
+        Some(entry) => {
+            let disp = i128::from(entry.disp) + offset;
+            Some(Entry {
+                kind: entry.kind,
+                disp: disp as i64,
+            })
+        }
+    }
+}
+
+impl Datatype {
+    /// Entry `entry` of the typemap, counted from 0, without listing it; none where the typemap has no more than so many. The time
+    /// is that of reading the shapes on the way down to a kind.
+    pub fn entry_at(&self, entry: u64) -> Option<Entry>
+        ensures { result ≡ slice_get (entries_of self.now) entry }
+    {
+        let entries = self.bounds().elements;
+        if entry >= entries {
+            return None;
+        }
+        match self.shape() {
+            ShapeOf::One(kind) => Some(Entry {
+                kind: *kind,
+                disp: 0,
+            }),
+            ShapeOf::Grid { turns, old } => {
+                let (offset, inner) = in_grid(turns.as_slice(), old, entries, entry);
+                moved(old.entry_at(inner), offset)
+            }
+            ShapeOf::Each { spots, old } => {
+                let (offset, inner) = in_spots(spots.as_slice(), old, entry);
+                moved(old.entry_at(inner), offset)
+            }
+            ShapeOf::Seq { parts } => {
+                let (part, left) = part_at(parts.as_slice(), entry);
+                let (offset, inner) = in_row(part.first, part.copies, part.step, &part.old, left);
+                moved(part.old.entry_at(inner), offset)
+            }
+        }
+    }
 }

@@ -3,9 +3,9 @@
 
 pub mod datatype;
 mod digest;
+mod entries;
 pub mod fault;
 pub mod form;
-mod entries;
 mod make;
 mod measures;
 mod range;

@@ -1,8 +1,8 @@
 use mir.Syntax.{w128}
 use mir.Val.{to_z, of_z}
-use Rattle.std.proofs.Common.{◌≡◌, ◌∙◌, sym, ap, subst, arith, ◌+ℤ◌, pos, ◌/◌, ◌%◌, ◌+◌, ◌<◌, ◌^◌, ℤ, nat_abs, length, take, drop, get_or, FitsSigned}
+use Rattle.std.proofs.Common.{◌≡◌, ◌∙◌, sym, subst, arith, ◌+ℤ◌, pos, ◌/◌, ◌%◌, ◌<◌, length, take, get_or, FitsSigned}
 use Rattle.std.proofs.Math.Nat.{mod-lt}
-use Rattle.std.proofs.lemmas.Int.{ints, to_z-of_z}
+use Rattle.std.proofs.lemmas.Int.{to_z-of_z}
 use Rattle.dt_type.specs.declared.shape.Turns.{Turns}
 use Rattle.dt_type.specs.Shape.{grid_offsets, turn_offset}
 use Rattle.dt_type.proofs.GridAt.{count_some, divided, divided_some, next, next_fits}
@@ -32,8 +32,8 @@ overflow_add-offset c =
     let turn = c.turn_at-offset.ensures in
     let fits = next_fits c.args.turns.now c.loop-inner.inner-index no_turns c.args.copy c.loop-inner.left c.loop-inner-test.true inside c.loop-inner.invariant.0 c.requires.turns c.requires.nested in
     let sum : get_or (grid_offsets (take c.loop-inner.inner-index c.args.turns.now)) (c.args.copy / c.loop-inner.left) (pos 0)
-            +ℤ turn_offset (get_or c.args.turns.now c.loop-inner.inner-index no_turns) (c.args.copy / (c.loop-inner.left / (get_or c.args.turns.now c.loop-inner.inner-index no_turns).count) % (get_or c.args.turns.now c.loop-inner.inner-index no_turns).count)
-            ≡ to_z w128 c.loop-inner.offset-bits +ℤ to_z w128 (of_z w128 c.turn_at-offset.result) = cc in
+    +ℤ turn_offset (get_or c.args.turns.now c.loop-inner.inner-index no_turns) (c.args.copy / (c.loop-inner.left / (get_or c.args.turns.now c.loop-inner.inner-index no_turns).count) % (get_or c.args.turns.now c.loop-inner.inner-index no_turns).count)
+    ≡ to_z w128 c.loop-inner.offset-bits +ℤ to_z w128 (of_z w128 c.turn_at-offset.result) = cc in
     subst (FitsSigned w128) sum (near_fits _ fits)
 
 pub loop-inner-preserved : goal.loop-inner-preserved
@@ -45,7 +45,8 @@ loop-inner-preserved c =
     let fits = next_fits c.args.turns.now c.loop-inner.inner-index no_turns c.args.copy c.loop-inner.left c.loop-inner-test.true inside c.loop-inner.invariant.0 c.requires.turns c.requires.nested in
     let value = next c.args.turns.now c.loop-inner.inner-index no_turns c.args.copy c.loop-inner.left c.loop-inner-test.true inside c.loop-inner.invariant.0 in
     let sum : get_or (grid_offsets (take c.loop-inner.inner-index c.args.turns.now)) (c.args.copy / c.loop-inner.left) (pos 0)
-            +ℤ turn_offset (get_or c.args.turns.now c.loop-inner.inner-index no_turns) (c.args.copy / (c.loop-inner.left / (get_or c.args.turns.now c.loop-inner.inner-index no_turns).count) % (get_or c.args.turns.now c.loop-inner.inner-index no_turns).count)
-            ≡ to_z w128 c.loop-inner.offset-bits +ℤ to_z w128 (of_z w128 c.turn_at-offset.result) = cc in
-    (divided c.args.turns.now c.loop-inner.inner-index no_turns c.args.copy c.loop-inner.left c.loop-inner-test.true inside c.loop-inner.invariant.0,
-     to_z-of_z w128 _ (subst (FitsSigned w128) sum (near_fits _ fits)) ∙ sym sum ∙ sym value)
+    +ℤ turn_offset (get_or c.args.turns.now c.loop-inner.inner-index no_turns) (c.args.copy / (c.loop-inner.left / (get_or c.args.turns.now c.loop-inner.inner-index no_turns).count) % (get_or c.args.turns.now c.loop-inner.inner-index no_turns).count)
+    ≡ to_z w128 c.loop-inner.offset-bits +ℤ to_z w128 (of_z w128 c.turn_at-offset.result) = cc in (
+      divided c.args.turns.now c.loop-inner.inner-index no_turns c.args.copy c.loop-inner.left c.loop-inner-test.true inside c.loop-inner.invariant.0,
+      to_z-of_z w128 _ (subst (FitsSigned w128) sum (near_fits _ fits)) ∙ sym sum ∙ sym value,
+    )

@@ -1,10 +1,9 @@
 use Rattle.std.specs.Prelude.{slice_get}
 use Rattle.std.specs.List.{flat_map}
-use Rattle.std.proofs.Common.{◌≡◌, ◌∙◌, sym, ap, arith, ◌-◌, ◌*◌, ◌≤◌, ◌<◌, length, drop, ◌+◌}
+use Rattle.std.proofs.Common.{◌≡◌, ◌∙◌, sym, ap, arith, ◌-◌, ◌*◌, length, drop, ◌+◌}
 use Rattle.dt_map.specs.declared.typemap.Bounds.{Bounds}
 use Rattle.dt_type.specs.declared.datatype.Seen.{Seen}
 use Rattle.dt_type.specs.declared.shape.ShapePartOf.{ShapePartOf}
-use Rattle.dt_type.specs.Datatype.{entries_of}
 use Rattle.dt_type.specs.Shape.{placed_parts}
 use Rattle.dt_type.proofs.Lookups.{part_entries, entries-parts, length-part, piece_here, piece_later, none_left}
 use Rattle.dt_type.proofs.entries.part_at.Goals as goal
@@ -16,9 +15,9 @@ pub returns-then-from-entries-clause-entry : goal.returns-then-from-entries-clau
 returns-then-from-entries-clause-entry c =
     let p : ShapePartOf Seen = c.part-item.result in
     let entries : c.from.result * c.from-in-loop-part.result ≡ length (part_entries p) =
-        ap (λ n. n * c.from-in-loop-part.result) c.from.ensures
-        ∙ ap (λ n. p.copies * n) (c.from-in-loop-part.ensures ∙ ap (λ (b : Bounds). b.elements) c.bounds.ensures.value)
-        ∙ sym (length-part p) in
+    ap (λ n. n * c.from-in-loop-part.result) c.from.ensures
+    ∙ ap (λ n. p.copies * n) (c.from-in-loop-part.ensures ∙ ap (λ (b : Bounds). b.elements) c.bounds.ensures.value)
+    ∙ sym (length-part p) in
     let left = c.from-in-loop-part-2.ensures in
     let test = c.if-from-entries.true in
     sym c.loop-part.invariant ∙ piece_here part_entries c.args.parts.now c.loop-part.part-index p p c.loop-part-test.true c.part-item.is c.loop-part.left (omega arith)
@@ -27,9 +26,9 @@ pub returns-then-from-entries-clause-within : goal.returns-then-from-entries-cla
 returns-then-from-entries-clause-within c =
     let p : ShapePartOf Seen = c.part-item.result in
     let entries : c.from.result * c.from-in-loop-part.result ≡ length (part_entries p) =
-        ap (λ n. n * c.from-in-loop-part.result) c.from.ensures
-        ∙ ap (λ n. p.copies * n) (c.from-in-loop-part.ensures ∙ ap (λ (b : Bounds). b.elements) c.bounds.ensures.value)
-        ∙ sym (length-part p) in
+    ap (λ n. n * c.from-in-loop-part.result) c.from.ensures
+    ∙ ap (λ n. p.copies * n) (c.from-in-loop-part.ensures ∙ ap (λ (b : Bounds). b.elements) c.bounds.ensures.value)
+    ∙ sym (length-part p) in
     let left = c.from-in-loop-part-2.ensures in
     let test = c.if-from-entries.true in
     omega arith
@@ -38,9 +37,9 @@ pub loop-part-preserved : goal.loop-part-preserved
 loop-part-preserved c =
     let p : ShapePartOf Seen = c.part-item.result in
     let entries : c.from.result * c.from-in-loop-part.result ≡ length (part_entries p) =
-        ap (λ n. n * c.from-in-loop-part.result) c.from.ensures
-        ∙ ap (λ n. p.copies * n) (c.from-in-loop-part.ensures ∙ ap (λ (b : Bounds). b.elements) c.bounds.ensures.value)
-        ∙ sym (length-part p) in
+    ap (λ n. n * c.from-in-loop-part.result) c.from.ensures
+    ∙ ap (λ n. p.copies * n) (c.from-in-loop-part.ensures ∙ ap (λ (b : Bounds). b.elements) c.bounds.ensures.value)
+    ∙ sym (length-part p) in
     let left = c.from-in-loop-part-2.ensures in
     let test = c.if-from-entries.false in
     ap (λ n. slice_get (flat_map part_entries (drop (c.loop-part.part-index + 1) c.args.parts.now)) (c.loop-part.left - n)) entries

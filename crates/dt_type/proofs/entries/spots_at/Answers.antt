@@ -1,7 +1,7 @@
 use mir.Syntax.{w128}
 use mir.Val.{to_z, of_z}
-use Rattle.std.specs.Prelude.{Option, Some, slice_get}
-use Rattle.std.proofs.Common.{◌≡◌, ◌∙◌, sym, refl, ap, arith, ◌+ℤ◌, ◌*ℤ◌, pos, ◌-◌, ◌≤◌, ◌<◌, length, get_or, drop, ◌+◌}
+use Rattle.std.specs.Prelude.{Some, slice_get}
+use Rattle.std.proofs.Common.{◌≡◌, ◌∙◌, sym, refl, ap, arith, ◌+ℤ◌, ◌*ℤ◌, pos, ◌-◌, length, get_or, drop, ◌+◌}
 use Rattle.dt_type.specs.declared.shape.Spot.{Spot}
 use Rattle.dt_type.specs.Conditions.{IsSpot}
 use Rattle.dt_type.specs.Shape.{row_offsets, spot_offsets}
