@@ -1,11 +1,11 @@
 -- Packing one element, or some elements, after others.
-use Rattle.std.proofs.Common.{◌≡◌, ℕ, zero, suc, add-one, ◌==◌, ◌+◌, ◌*◌, ◌<◌, ◌≤◌, ℤ, pos, ◌+ℤ◌, ◌*ℤ◌, ◌≤ℤ◌, Bool, true, false, ◌&&◌, List, [], ◌∷◌, ◌++◌, length, take, get_or, map, refl, ap, sym, subst, ◌∙◌, append_assoc, arith}
+use Rattle.std.proofs.Common.{◌≡◌, ℕ, zero, suc, add-one, ◌==◌, ◌+◌, ◌*◌, ◌<◌, ℤ, pos, ◌+ℤ◌, ◌*ℤ◌, ◌≤ℤ◌, Bool, true, false, ◌&&◌, List, [], ◌∷◌, ◌++◌, length, refl, ap, sym, subst, ◌∙◌, append_assoc, arith}
 use Rattle.std.proofs.lemmas.Int.{ints}
 use Rattle.std.proofs.Math.Bool.{and-false}
 use Rattle.std.proofs.lemmas.Bool.{eqb-true}
 use Rattle.std.proofs.lemmas.Bool.Decides.{nat_tests}
 use Rattle.std.proofs.lemmas.Grind.{flat_map-append}
-use Rattle.std.proofs.lemmas.List.{take_more, map-append, append-nil}
+use Rattle.std.proofs.lemmas.List.{append-nil}
 use Rattle.std.proofs.lemmas.List.Folds.{list_all-append}
 use Rattle.std.specs.List.{list_all, flat_map}
 use Rattle.dt_kinds.specs.declared.kind.Rep.TheVariants.{Native}
@@ -13,7 +13,7 @@ use Rattle.dt_map.specs.declared.typemap.Entry.{Entry}
 use Rattle.dt_map.specs.Elements.{lies_inside, are_inside, copies}
 use Rattle.dt_map.specs.Numbers.{below}
 use Rattle.dt_map.specs.Packed.{bytes_at, packed}
-use Rattle.dt_map.specs.Typemap.{shift, shift_entry}
+use Rattle.dt_map.specs.Typemap.{shift}
 use Rattle.dt_machine.specs.Near.{IsBetween}
 use Rattle.dt_machine.specs.Packing.{Packs}
 

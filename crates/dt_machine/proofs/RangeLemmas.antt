@@ -1,15 +1,13 @@
 -- What a line gives lies in the ranges of the line forms.
-use Rattle.std.proofs.Common.{◌≡◌, ℤ, pos, negsuc, ◌≤ℤ◌, int_le, Bool, true, false, ◌&&◌, cond, List, ℕ, Option, Some, None, refl, subst, arith}
+use Rattle.std.proofs.Common.{◌≡◌, ℤ, ◌≤ℤ◌, int_le, Bool, true, false, ◌&&◌, cond, List, ℕ, Option, Some, None, refl, subst, arith}
 use Rattle.std.proofs.lemmas.Int.{ints}
 use Rattle.std.specs.Option.{option_and_then}
-use Rattle.dt_kinds.specs.declared.kind.Rep.TheVariants.{Native}
 use Rattle.dt_script.specs.declared.command.Command.{Command}
 use Rattle.dt_script.specs.declared.command.Command.TheVariants.{Define, Buffer, Bytes}
 use Rattle.dt_script.specs.declared.command.Ctor.TheVariants.{Hvector}
-use Rattle.dt_script.specs.declared.command.Fill.TheVariants.{Count}
 use Rattle.dt_script.specs.Command.{IsInteger, IsCommand}
 use Rattle.dt_script.specs.Number.{in_range, bounded, integer_of}
-use Rattle.dt_machine.specs.Range.{IsCount, IsWritten}
+use Rattle.dt_machine.specs.Range.{IsWritten}
 
 le_from_test : (a b : ℤ) → int_le a b ≡ true → a ≤ℤ b
 le_from_test a b h = grind (arith, ints)

@@ -1,5 +1,5 @@
 -- What each command does, by what it found.
-use Rattle.std.proofs.Common.{◌≡◌, ℕ, ℤ, pos, negsuc, nat_abs, Bool, true, false, ◌||◌, ◌&&◌, not, cond, List, [], ◌∷◌, ◌++◌, length, Option, Some, None, SFits, refl, ap, sym, subst, ◌∙◌, codes, arith}
+use Rattle.std.proofs.Common.{◌≡◌, ℕ, ℤ, pos, negsuc, nat_abs, true, false, List, [], ◌++◌, length, Some, None, SFits, refl, ap, subst, ◌∙◌, codes, arith}
 use Rattle.std.proofs.lemmas.Int.{ints}
 use Rattle.std.specs.Int.{w128}
 use Rattle.dt_kinds.specs.declared.kind.Kind.TheVariants.{Int}
@@ -14,14 +14,12 @@ use Rattle.dt_script.specs.declared.command.Command.{Command}
 use Rattle.dt_script.specs.declared.command.Command.TheVariants.{Define, Buffer, Bytes}
 use Rattle.dt_script.specs.declared.command.Ctor.TheVariants.{Hvector}
 use Rattle.dt_script.specs.declared.command.Fill.TheVariants.{Count}
-use Rattle.dt_machine.specs.declared.refusal.Refusal.{Refusal}
-use Rattle.dt_machine.specs.declared.refusal.Refusal.TheVariants.{Syntax, UnknownName, NameTaken, Outside}
-use Rattle.dt_machine.specs.Refusal.{refusal_of}
+use Rattle.dt_machine.specs.declared.refusal.Refusal.TheVariants.{UnknownName, NameTaken, Outside}
 use Rattle.dt_machine.specs.declared.machine.Layout.{Layout}
 use Rattle.dt_machine.specs.Layout.{IsLayoutOf}
 use Rattle.dt_machine.specs.Near.{IsBetween}
 use Rattle.dt_machine.specs.Packing.{Packs}
-use Rattle.dt_machine.specs.Reply.{Reply, Done, Packed, Refused, text_of, Gives, Responds}
+use Rattle.dt_machine.specs.Reply.{Done, Packed, Refused, text_of, Responds}
 use Rattle.dt_machine.specs.State.{State, type_of, buffer_of, is_type_taken, is_buffer_taken, with_type, with_buffer, counting}
 use Rattle.dt_machine.specs.Step.{Obeys}
 

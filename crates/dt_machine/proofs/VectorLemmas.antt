@@ -1,5 +1,5 @@
 -- A vector of integers is the plain list of their places.
-use Rattle.std.proofs.Common.{◌≡◌, ℕ, zero, suc, add-one, ◌+◌, ◌*◌, ◌<◌, ◌≤◌, ℤ, pos, ◌+ℤ◌, ◌*ℤ◌, ◌≤ℤ◌, List, [], ◌∷◌, ◌++◌, map, Option, Some, None, refl, ap, sym, subst, ◌∙◌, arith}
+use Rattle.std.proofs.Common.{◌≡◌, ℕ, zero, suc, add-one, ◌+◌, ◌*◌, ◌<◌, ◌≤◌, ℤ, pos, ◌+ℤ◌, ◌*ℤ◌, ◌≤ℤ◌, List, [], ◌∷◌, ◌++◌, map, Option, None, refl, ap, sym, subst, ◌∙◌, arith}
 use Rattle.std.proofs.lemmas.Int.{ints}
 use Rattle.std.proofs.lemmas.Grind.{flat_map-append}
 use Rattle.std.proofs.lemmas.List.{append-nil, map-append}
@@ -10,11 +10,11 @@ use Rattle.dt_kinds.specs.Displacement.{FitsDisp}
 use Rattle.dt_map.specs.declared.typemap.Entry.{Entry}
 use Rattle.dt_map.specs.declared.typemap.Marks.{Marks}
 use Rattle.dt_map.specs.Constructors.{named, block_offsets, hvector_offsets, hvector}
-use Rattle.dt_map.specs.Limits.{EntryFits, Fits}
+use Rattle.dt_map.specs.Limits.{EntryFits}
 use Rattle.dt_map.specs.Numbers.{below}
-use Rattle.dt_map.specs.Placing.{place, placed_marks}
+use Rattle.dt_map.specs.Placing.{placed_marks}
 use Rattle.dt_map.specs.Typemap.{Marked, shift}
-use Rattle.dt_machine.specs.Vector.{int_at, ints_at, IsStride, IsShort}
+use Rattle.dt_machine.specs.Vector.{int_at, ints_at, IsStride}
 
 zero_plus : (x : ℤ) → pos 0 +ℤ x ≡ x
 zero_plus x = omega (arith, ints)

@@ -1,6 +1,6 @@
 -- The answers to a script: the replies to its lines, one after another.
-use Rattle.std.specs.Prelude.{◌≡◌, ℕ, ◌==◌, Bool, if◌then◌else◌, not, List, [], ◌∷◌, ◌++◌, map}
-use Rattle.std.specs.List.{flat_map, list_all}
+use Rattle.std.specs.Prelude.{◌≡◌, ℕ, ◌-◌, ◌==◌, nat_eq, take, length, Bool, if◌then◌else◌, List, [], ◌∷◌, map}
+use Rattle.std.specs.List.{flat_map, list_all, ends_with}
 use Rattle.dt_machine.specs.Reply.{Reply, text_of, is_accepted}
 use Rattle.dt_machine.specs.State.{State, first_state}
 use Rattle.dt_machine.specs.Step.{Step}
@@ -15,11 +15,9 @@ abbrev pub raw_lines : List ℕ → List (List ℕ)
 raw_lines [] = []
 raw_lines (b ∷ bytes) = if b == 10 then [] ∷ raw_lines bytes else onto_first_line b (raw_lines bytes)
 
--- a line without the one carriage return at its end
+-- a line without the one carriage return at its end, where it has one
 abbrev pub without_return : List ℕ → List ℕ
-without_return [] = []
-without_return (b ∷ []) = if b == 13 then [] else b ∷ []
-without_return (b ∷ c ∷ bytes) = b ∷ without_return (c ∷ bytes)
+without_return line = if ends_with nat_eq line (13 ∷ []) then take (length line - 1) line else line
 
 -- the lines of a script
 abbrev pub script_lines : List ℕ → List (List ℕ)

@@ -1,4 +1,4 @@
-use Rattle.std.specs.Prelude.{◌≡◌, ℤ, pos, negsuc, ◌≤ℤ◌, codes}
+use Rattle.std.specs.Prelude.{◌≡◌, ℤ, pos, ◌≤ℤ◌, codes}
 use Rattle.dt_kinds.specs.declared.kind.Rep.TheVariants.{Native}
 use Rattle.dt_script.specs.declared.command.Command.{Command}
 use Rattle.dt_script.specs.declared.command.Command.TheVariants.{Define, Buffer, Bytes}

@@ -1,5 +1,5 @@
 -- What a line does to the state, and what is replied.
-use Rattle.std.specs.Prelude.{◌≡◌, ℕ, nat_abs, List, Option, Some, MatchOption}
+use Rattle.std.specs.Prelude.{◌≡◌, ℕ, nat_abs, List, Some, MatchOption}
 use Rattle.dt_map.specs.Constructors.{hvector}
 use Rattle.dt_map.specs.Elements.{elements}
 use Rattle.dt_map.specs.Packed.{packed}

@@ -29,10 +29,10 @@ use Rattle.dt_type.proofs.Reaches.{below_most, capped-add, capped-mul, capped-mu
 use Rattle.dt_type.proofs.TrueSpans.{true_span_is}
 use Rattle.dt_type.proofs.Spans.{some_same, joined-assoc, spans-append, spans-map, spans-flat_map, spans-same, spans-shift, spans-copies}
 
-abbrev entries_at : List (ℤ × Marked) → List Entry
+abbrev pub entries_at : List (ℤ × Marked) → List Entry
 entries_at members = flat_map (λ member. shift member.0 member.1.entries) members
 
-abbrev all_at : List ℤ → Marked → List (ℤ × Marked)
+abbrev pub all_at : List ℤ → Marked → List (ℤ × Marked)
 all_at xs m = map (λ x. (x, m)) xs
 
 -- numbers that only the kinds decide
@@ -55,7 +55,7 @@ module _ (g : Kind → ℕ) where
       let rest = sized-copies xs m in
       omega arith
 
-length-copies : (xs : List ℤ) (m : Marked) → length (entries_at (all_at xs m)) ≡ length xs * length m.entries
+pub length-copies : (xs : List ℤ) (m : Marked) → length (entries_at (all_at xs m)) ≡ length xs * length m.entries
 length-copies [] m = omega arith
 length-copies (x ∷ xs) m =
     let more = length-append (shift x m.entries) (entries_at (all_at xs m)) in

@@ -1,9 +1,13 @@
+pub mod CopyAt
 pub mod Counted
 pub mod DigestBounds
 pub mod Digests
+pub mod EntryFits
 pub mod Examples
+pub mod GridAt
 pub mod GridNear
 pub mod InRows
+pub mod Lookups
 pub mod Near
 pub mod OneEntry
 pub mod Products

@@ -104,3 +104,14 @@ grid_near [] nested i lt = absurd (omega arith)
 grid_near (t ∷ []) nested zero lt = zero_near
 grid_near (t ∷ []) nested (suc i) lt = absurd (omega arith)
 grid_near (t ∷ u ∷ turns) nested i lt = disps_near (grid_offsets (take i (t ∷ u ∷ turns))) (nested.1 i)
+
+-- where the block of a turn begins, and how far its turns may reach
+pub turn_block_near : (t : Turns) → AreTurns t → (q : ℕ) → q < t.count → nat_abs (t.first +ℤ (pos (q / t.block) *ℤ t.jump)) + q % t.block * 2 ^ 93 < 2 ^ 126
+turn_block_near t turns q h =
+    let first = turns.first in
+    let most = turns.most in
+    let least = turns.least in
+    let block = block_of t turns q h in
+    let jump = product_near (q / t.block) t.jump turns.jump in
+    let rest : q % t.block < t.block = mod-lt q (omega arith) in
+    omega (arith, ints)

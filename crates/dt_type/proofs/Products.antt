@@ -61,3 +61,6 @@ same128 z fits = to_z-of_z w128 z (record { sfits = fits })
 
 pub factor_back : (x : ℤ) → IsFactor x → to_z w128 (of_z w128 x) ≡ x
 factor_back x factor = to_z-of_z w128 x (omega (arith, ints))
+
+pub near_fits : (x : ℤ) → nat_abs x < 2 ^ 126 → FitsSigned w128 x
+near_fits x near = omega (arith, ints)

@@ -52,10 +52,10 @@ pub reach-append : (xs ys : List ℤ) → reach (xs ++ ys) ≡ beside (reach xs)
 reach-append xs ys = reach_same _ _ _ _ (ap capped (length-append xs ys) ∙ sym (capped-add (length xs) (length ys))) (spans-append point xs ys)
 
 -- each of xs, and there each of ys
-abbrev sums : List ℤ → List ℤ → List ℤ
+abbrev pub sums : List ℤ → List ℤ → List ℤ
 sums xs ys = flat_map (λ x. map (λ y. x +ℤ y) ys) xs
 
-length-sums : (xs ys : List ℤ) → length (sums xs ys) ≡ length xs * length ys
+pub length-sums : (xs ys : List ℤ) → length (sums xs ys) ≡ length xs * length ys
 length-sums [] ys = omega arith
 length-sums (x ∷ xs) ys =
     let more = length-append (map (λ y. x +ℤ y) ys) (sums xs ys) in

@@ -1,6 +1,7 @@
 -- What is seen of a datatype is what its node keeps.
-use Rattle.std.specs.Prelude.{◌≡◌, ℕ, IsTrue}
-use Rattle.std.proofs.Common.{sym, ap, subst, ◌∙◌}
+use Rattle.std.specs.Prelude.{◌≡◌, ℕ, ◌<◌, List, [], ◌∷◌, IsTrue}
+use Rattle.std.specs.List.{AllByRecursion}
+use Rattle.std.proofs.Common.{sym, ap, subst, ◌∙◌, arith}
 use Rattle.dt_map.specs.Bounds.{bounds_of}
 use Rattle.dt_map.specs.Typemap.{Marked}
 use Rattle.dt_type.specs.declared.datatype.Node.{Node}
@@ -8,9 +9,11 @@ use Rattle.dt_type.specs.declared.datatype.Seen.{Seen, out-Seen, roll-Seen, out-
 use Rattle.dt_type.specs.declared.form.FormOf.{FormOf}
 use Rattle.dt_type.specs.Arguments.{takes_arguments}
 use Rattle.dt_type.specs.Conditions.{IsShapeFor}
-use Rattle.dt_type.specs.Datatype.{Layer, typemap_of, form_of, IsInRange}
-use Rattle.dt_type.specs.Form.{result_of, map_by, weight_by}
+use Rattle.dt_type.specs.Datatype.{Layer, typemap_of, form_of, depth_of, IsInRange}
+use Rattle.dt_type.specs.Falls.{has_level}
+use Rattle.dt_type.specs.Form.{result_of, map_by, weight_by, deepest}
 use Rattle.dt_type.proofs.Counted.{sound_elements, sound_external, sound_alignment}
+use Rattle.dt_type.specs.Shape.{olds_of}
 use Rattle.dt_type.specs.Sound.{Sound, layer_of, view_of, map_of}
 
 pub shown : (n : Node) (t : Seen) → view_of n ≡ t → out-Seen t ≡ layer_of n
@@ -47,4 +50,16 @@ pub shown_shape : (n : Node) (t : Seen) → view_of n ≡ t → Sound n → IsSh
 shown_shape n t e sound = subst (IsShapeFor n.shape) (sym (shown_form n t e)) sound.shape
 
 -- what the readers' clauses rest on
-pub ruleset readers = (shown, shown_bounds, shown_range, shown_given, shown_arguments, shown_shape, given, sound_elements, sound_external, sound_alignment)
+all_under : (limit : ℕ) (olds : List Seen) → deepest olds < limit → AllByRecursion (λ old. depth_of old < limit) olds
+all_under limit [] h = tt
+all_under limit (old ∷ olds) h = (omega arith, all_under limit olds (omega arith))
+
+pub shown_below : (n : Node) (t : Seen) → view_of n ≡ t → Sound n → AllByRecursion (λ old. depth_of old < depth_of t) (olds_of n.shape)
+shown_below n t e sound =
+    let shown_depth : depth_of t ≡ n.depth = ap (λ (l : Layer). l.depth) (shown n t e) in
+    let depth = sound.depth in
+    let same = ap deepest sound.shape.olds in
+    let level = has_level n.form sound.shape.arguments in
+    all_under (depth_of t) (olds_of n.shape) (omega arith)
+
+pub ruleset readers = (shown, shown_bounds, shown_range, shown_given, shown_arguments, shown_shape, shown_below, given, sound_elements, sound_external, sound_alignment)

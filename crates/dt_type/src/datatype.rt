@@ -1,12 +1,13 @@
 //! A datatype: a marked typemap with its form, shared by `Rc`.
-ghost use Rattle.std.specs.Prelude.{◌≡◌, ◌≤◌, IsTrue, IfOk};
+ghost use Rattle.std.specs.Prelude.{◌≡◌, ◌≤◌, ◌<◌, IsTrue, IfOk};
+ghost use Rattle.std.specs.List.{AllByRecursion};
 ghost use Rattle.dt_kinds.specs.Kind.{external_size};
 ghost use Rattle.dt_map.specs.Bounds.{bounds_of};
 ghost use Rattle.dt_type.specs.Arguments.{takes_arguments};
 ghost use Rattle.dt_type.specs.Conditions.{IsShapeFor};
 ghost use Rattle.dt_type.specs.Datatype.{typemap_of, entries_of, marks_of, form_of, weight_of, depth_of, IsInRange};
 ghost use Rattle.dt_type.specs.Form.{result_of, map_by};
-ghost use Rattle.dt_type.specs.Shape.{placed_by};
+ghost use Rattle.dt_type.specs.Shape.{placed_by, olds_of as placed_olds};
 ghost use Rattle.dt_type.specs.Sound.{Sound};
 
 use crate::form::{Form, FormOf};
@@ -153,6 +154,7 @@ impl Datatype {
     pub fn shape(&self) -> &Shape
         ensures placed { (placed_by result.now).entries ≡ entries_of self.now }
         ensures beside_form { IsShapeFor result.now (form_of self.now) }
+        ensures below { AllByRecursion (λ old. depth_of old < depth_of self.now) (placed_olds result.now) }
     {
         &self.node.shape
     }

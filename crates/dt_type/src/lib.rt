@@ -3,6 +3,7 @@
 
 pub mod datatype;
 mod digest;
+mod entries;
 pub mod fault;
 pub mod form;
 mod make;

@@ -1,5 +1,7 @@
 -- What the program answers.
-use Rattle.std.specs.Prelude.{◌≡◌, ℕ, ◌≤◌, Bool, true, false, List, [], ◌∷◌, ◌++◌, length, Option, IfSome, MatchOption, codes}
+use Rattle.std.specs.Prelude.{◌≡◌, ℕ, ◌≤◌, Bool, true, false, List, [], ◌∷◌, ◌++◌, length, Option, Some, IfSome, MatchOption, codes}
+use Rattle.std.specs.Io.KnownBytes.{Appends}
+use Rattle.std.specs.Str.{bytes_eq}
 use Rattle.dt_base.specs.Counter.{counted}
 use Rattle.dt_machine.specs.Answers.{Run, Answers, script_lines, text_of_all}
 use Rattle.dt_machine.specs.Reply.{Reply}
@@ -30,6 +32,16 @@ IsCutShort ReadFault = ⊥
 IsCutShort WriteFault = Unit {0}
 IsCutShort NoMemory = Unit {0}
 IsCutShort TooLong = ⊥
+
+-- the call ended before anything was written
+abbrev pub IsUnwritten : Status → Type 0
+IsUnwritten Done = ⊥
+IsUnwritten Refused = ⊥
+IsUnwritten Usage = Unit {0}
+IsUnwritten ReadFault = Unit {0}
+IsUnwritten WriteFault = ⊥
+IsUnwritten NoMemory = ⊥
+IsUnwritten TooLong = Unit {0}
 
 -- these words, this input, this text and this status belong together: the text is the replies to the lines of the input,
 -- and the status is Refused where some reply is a refusal
@@ -74,3 +86,26 @@ IsAnswerOrNoMemory ReadFault = ⊥
 IsAnswerOrNoMemory WriteFault = ⊥
 IsAnswerOrNoMemory NoMemory = Unit {0}
 IsAnswerOrNoMemory TooLong = ⊥
+
+-- what a run of an input wrote to a sink, by the status it ended with: all replies, or where it was cut short a front of them
+abbrev pub WroteText : Status → List ℕ → List ℕ → Type 0
+WroteText Done input text = Answers input text true
+WroteText Refused input text = Answers input text false
+WroteText Usage input text = ⊥
+WroteText ReadFault input text = ⊥
+WroteText WriteFault input text = IsFront input text
+WroteText NoMemory input text = IsFront input text
+WroteText TooLong input text = ⊥
+
+abbrev pub Wrote : List ℕ → Status → Option (List ℕ) → Option (List ℕ) → Type 0
+Wrote input status old new = (text : List ℕ) × Appends old new text × WroteText status input text
+
+-- the words are the one word `run`
+abbrev pub is_run : List (List ℕ) → Bool
+is_run [] = false
+is_run (word ∷ []) = bytes_eq word (codes "run")
+is_run (word ∷ other ∷ words) = false
+
+-- what the sink holds is what it held before and a text
+abbrev pub Holds : Option (List ℕ) → List ℕ → (List ℕ → Type 0) → Type 0
+Holds new before P = (text : List ℕ) × (new ≡ Some (before ++ text)) × P text

@@ -20,9 +20,23 @@ fn line_len(bytes: &[u8]) -> usize
 fn without_return(line: &[u8]) -> &[u8]
     ensures { result.now ≡ without_return line.now }
 {
-    match line {
-        [front @ .., 13] => front,
-        _ => line,
+    if line.ends_with(b"\r") {
+        &line[..line.len() - 1]
+    } else {
+        line
+    }
+}
+
+/// The first line of an input as it stands there, and the bytes after it.
+fn raw_line(bytes: &[u8]) -> (&[u8], &[u8])
+    requires { bytes.now ≢ [] }
+    ensures lines { raw_lines bytes.now ≡ result.0.now ∷ raw_lines result.1.now }
+    ensures shorter { length result.1.now < length bytes.now }
+{
+    let (line, rest) = bytes.split_at(line_len(bytes));
+    match rest.split_first() {
+        Some((_, after)) => (line, after),
+        None => (line, rest),
     }
 }
 
@@ -32,10 +46,6 @@ pub(crate) fn first_line(bytes: &[u8]) -> (&[u8], &[u8])
     ensures lines { script_lines bytes.now ≡ result.0.now ∷ script_lines result.1.now }
     ensures shorter { length result.1.now < length bytes.now }
 {
-    let (line, rest) = bytes.split_at(line_len(bytes));
-    let rest = match rest {
-        [_, rest @ ..] => rest,
-        [] => rest,
-    };
+    let (line, rest) = raw_line(bytes);
     (without_return(line), rest)
 }

@@ -1,7 +1,6 @@
 use Rattle.std.proofs.Common.{ℤ, [], length, sym, subst, SFits, ◌≡◌, to_z, of_z}
 use Rattle.std.proofs.lemmas.Int.{to_z-of_z}
 use Rattle.std.specs.Int.{w64, w128}
-use Rattle.dt_map.specs.Elements.{copies, are_inside}
 use Rattle.dt_machine.specs.Near.{IsBetween}
 use Rattle.dt_machine.proofs.PackingLemmas.{packs_copy, copy_outside, next_place, next_low, next_high}
 use Rattle.dt_machine.proofs.packing.pack.Goals as goal

@@ -1,4 +1,4 @@
-use Rattle.std.proofs.Common.{◌≡◌, ◌+◌, ◌*◌, ℤ, pos, ◌+ℤ◌, ◌*ℤ◌, ◌≤ℤ◌, []}
+use Rattle.std.proofs.Common.{◌≡◌, ◌+◌, ◌*◌, pos, ◌+ℤ◌, ◌*ℤ◌, ◌≤ℤ◌, []}
 use Rattle.dt_map.specs.Elements.{copies}
 use Rattle.dt_machine.specs.Packing.{Packs}
 use Rattle.dt_machine.proofs.packing.pack.Given as goal

@@ -1,4 +1,4 @@
-use Rattle.std.proofs.Common.{ℕ, ℤ, pos, List, ◌≡◌, SFits, sym, subst, ◌∙◌, ap, arith, refl, None, to_z, of_z}
+use Rattle.std.proofs.Common.{pos, List, ◌≡◌, SFits, sym, subst, ◌∙◌, ap, arith, None, to_z, of_z}
 use Rattle.std.proofs.lemmas.Int.{to_z-of_z, ints}
 use Rattle.std.specs.Int.{w64}
 use Rattle.std.specs.List.{All}

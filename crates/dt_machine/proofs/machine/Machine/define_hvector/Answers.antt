@@ -1,4 +1,4 @@
-use Rattle.std.proofs.Common.{◌≡◌, ℤ, ◌++◌, sym, ap, ◌∙◌, refl, to_z, of_z}
+use Rattle.std.proofs.Common.{◌++◌, sym, ap, ◌∙◌, refl}
 use Rattle.std.proofs.lemmas.Int.{to_z-of_z}
 use Rattle.std.specs.Int.{w32, w64}
 use Rattle.dt_machine.proofs.StepLemmas.{defines}

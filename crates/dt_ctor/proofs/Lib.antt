@@ -1,0 +1,5 @@
+pub mod Answers
+pub mod Blocks
+pub mod OneCopy
+pub mod Products
+pub mod RowPlaces

@@ -1,0 +1,55 @@
+//! Constructors that place the old type once.
+ghost use Rattle.std.specs.Prelude.{◌≡◌, MatchResult, IsErrOf};
+ghost use Rattle.dt_ctor.specs.Answer.{IsMade, IsCause};
+ghost use Rattle.dt_ctor.specs.Places.{Places};
+
+use crate::built::{built, built_under, shared};
+use dt_map::Marks;
+use dt_type::{Cover, CtorFault, Datatype, FormOf, Shape, ShapeOf};
+use sqlite_items::Items;
+use std::alloc::Global;
+
+/// A shape that places one copy at 0.
+#[tactic(auto, using(crate::proofs::OneCopy::placed_once))]
+fn one_of(alloc: Global, old: &Datatype) -> Result<Shape, CtorFault>
+    ensures { MatchResult result (λ s. Places s (FormOf.Dup old.now)) (λ fault. fault ≡ CtorFault.NoMemory) }
+{
+    Ok(ShapeOf::Grid {
+        turns: Items::new(alloc),
+        old: shared(old)?,
+    })
+}
+
+/// The typemap of the old type, with marks of its own at `lb` and `lb + extent` in place of all others (MPI 4.1, section 5.1.7,
+/// `MPI_Type_create_resized`). It takes every `lb` and `extent`; where one of the marks is out of range it answers `Overflow`.
+#[tactic(auto, using(crate::proofs::Answers::answers))]
+pub fn resized(alloc: Global, lb: i64, extent: i64, old: &Datatype) -> Result<Datatype, CtorFault>
+    ensures answer { let form = FormOf.Resized lb extent old.now in MatchResult result (IsMade form) (IsCause form) }
+    ensures arguments { ¬ IsErrOf result CtorFault.BadArgument }
+{
+    let Ok(ub) = i64::try_from(i128::from(lb) + i128::from(extent)) else {
+        return Err(CtorFault::Overflow);
+    };
+    let shape = one_of(alloc, old)?;
+    let form = FormOf::Resized {
+        lb,
+        extent,
+        old: shared(old)?,
+    };
+    built_under(alloc, shape, Cover::Erase(Marks { lb, ub }), form)
+}
+
+/// The typemap of the old type with its marks (MPI 4.1, section 5.1.10, `MPI_Type_dup`). It refuses only what lies too deep or
+/// weighs too much.
+#[tactic(auto, using(crate::proofs::Answers::answers))]
+pub fn dup(alloc: Global, old: &Datatype) -> Result<Datatype, CtorFault>
+    ensures answer { let form = FormOf.Dup old.now in MatchResult result (IsMade form) (IsCause form) }
+    ensures arguments { ¬ IsErrOf result CtorFault.BadArgument }
+    ensures in_range { ¬ IsErrOf result CtorFault.Overflow }
+{
+    // the old type is in range, and so is its duplicate
+    let _bounds = old.bounds();
+    let shape = one_of(alloc, old)?;
+    let form = FormOf::Dup { old: shared(old)? };
+    built(alloc, shape, form)
+}

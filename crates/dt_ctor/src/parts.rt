@@ -1,0 +1,96 @@
+//! The constructor that places several old types.
+ghost use Rattle.std.specs.Prelude.{◌≡◌, ◌++◌, [], ◌∷◌, MatchResult};
+ghost use Rattle.std.specs.List.{AllByRecursion, list_all};
+ghost use Rattle.dt_ctor.specs.Answer.{IsMade, IsCause};
+ghost use Rattle.dt_ctor.specs.Places.{Places};
+ghost use Rattle.dt_ctor.specs.Rows.{part_row};
+ghost use Rattle.dt_type.specs.Arguments.{is_count};
+ghost use Rattle.dt_type.specs.Conditions.{IsShapePart};
+
+use crate::built::{built, extent_of, shared};
+use dt_type::{
+    CtorFault, Datatype, Form, FormOf, Part, PartOf, Shape, ShapeOf, ShapePart, ShapePartOf,
+};
+use sqlite_items::Items;
+use std::alloc::Global;
+
+/// Whether no length is negative.
+fn are_parts(parts: &[Part]) -> bool
+    ensures { result ≡ list_all (λ p. is_count p.len) parts.now }
+{
+    parts.iter().all(|p| p.len >= 0)
+}
+
+/// The row of a part, by the extent of its own old type.
+fn row_of(part: &Part) -> Result<ShapePart, CtorFault>
+    ensures { MatchResult result (λ row. (row ≡ part_row part.now) × IsShapePart row) (λ fault. fault ≡ CtorFault.NoMemory) }
+{
+    Ok(ShapePartOf {
+        first: i128::from(part.disp),
+        copies: part.len.unsigned_abs(),
+        step: extent_of(&part.old),
+        old: shared(&part.old)?,
+    })
+}
+
+/// The same part again.
+fn copy_of(part: &Part) -> Result<Part, CtorFault>
+    ensures { MatchResult result (λ copy. copy ≡ part.now) (λ fault. fault ≡ CtorFault.NoMemory) }
+{
+    Ok(PartOf {
+        len: part.len,
+        disp: part.disp,
+        old: shared(&part.old)?,
+    })
+}
+
+/// One more row.
+fn add_row(rows: &mut Items<ShapePart>, row: ShapePart) -> Result<(), CtorFault>
+    requires rows { AllByRecursion IsShapePart rows.old }
+    requires row { IsShapePart row }
+    ensures added { MatchResult result (λ done. rows.new ≡ rows.old ++ row ∷ []) (λ fault. fault ≡ CtorFault.NoMemory) }
+    ensures numbers { AllByRecursion IsShapePart rows.new }
+{
+    match rows.push(row) {
+        Ok(()) => Ok(()),
+        Err(_) => Err(CtorFault::NoMemory),
+    }
+}
+
+/// A row of copies for each part.
+fn rows_of(alloc: Global, parts: &[Part]) -> Result<Shape, CtorFault>
+    ensures { MatchResult result (λ s. Places s (FormOf.Struct parts.now)) (λ fault. fault ≡ CtorFault.NoMemory) }
+{
+    let mut rows = Items::new(alloc);
+    for part in parts {
+        add_row(&mut rows, row_of(part)?)?;
+    }
+    Ok(ShapeOf::Seq { parts: rows })
+}
+
+/// The form of a struct.
+fn form_of(alloc: Global, parts: &[Part]) -> Result<Form, CtorFault>
+    ensures { MatchResult result (λ form. form ≡ FormOf.Struct parts.now) (λ fault. fault ≡ CtorFault.NoMemory) }
+{
+    let mut copies = Items::new(alloc);
+    for part in parts {
+        let Ok(()) = copies.push(copy_of(part)?) else {
+            return Err(CtorFault::NoMemory);
+        };
+    }
+    Ok(FormOf::Struct { parts: copies })
+}
+
+/// For each part `len` copies of its old type, one extent of that type apart, from `disp` bytes on (MPI 4.1, section 5.1.2,
+/// `MPI_Type_create_struct`). `BadArgument` where a length is negative. The time is that of reading the list.
+#[tactic(auto, using(crate::proofs::Answers::answers))]
+pub fn structure(alloc: Global, parts: &[Part]) -> Result<Datatype, CtorFault>
+    ensures { let form = FormOf.Struct parts.now in MatchResult result (IsMade form) (IsCause form) }
+{
+    if !are_parts(parts) {
+        return Err(CtorFault::BadArgument);
+    }
+    let shape = rows_of(alloc, parts)?;
+    let form = form_of(alloc, parts)?;
+    built(alloc, shape, form)
+}

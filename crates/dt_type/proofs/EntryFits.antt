@@ -1,0 +1,58 @@
+-- Each displacement of a typemap in range is a displacement.
+use Rattle.std.specs.Prelude.{◌≡◌, Option, Some, None, ℕ, zero, suc, ◌==◌, cond, Bool, true, false, ℤ, pos, ◌+ℤ◌, ◌≤ℤ◌, List, [], ◌∷◌, map, length, slice_get, IfSome}
+use Rattle.std.specs.List.{AllByRecursion}
+use Rattle.std.specs.Option.{option_map}
+use Rattle.std.proofs.Common.{sym, subst, arith}
+use Rattle.std.proofs.lemmas.Int.{ints, clamps}
+use Rattle.dt_kinds.specs.Displacement.{FitsDisp}
+use Rattle.dt_kinds.specs.Kind.{native_size}
+use Rattle.dt_map.specs.declared.typemap.Entry.{Entry}
+use Rattle.dt_map.specs.declared.typemap.Marks.{Marks}
+use Rattle.dt_map.specs.Bounds.{end_of, true_lb, true_ub}
+use Rattle.dt_map.specs.Placing.{joined_marks}
+use Rattle.dt_map.specs.Typemap.{Marked, shift_entry}
+use Rattle.dt_type.specs.Datatype.{IsInRange}
+use Rattle.dt_type.specs.Span.{span_of, entry_span}
+use Rattle.dt_type.proofs.TrueSpans.{true_span_is}
+
+Holds : Entry → Option Marks → Type 0
+Holds e None = ⊥
+Holds e (Some s) = (s.lb ≤ℤ e.disp) × (end_of e ≤ℤ s.ub)
+
+holds_first : (e : Entry) (s : Option Marks) → Holds e (joined_marks (entry_span e) s)
+unfolding Holds
+holds_first e None = (omega (arith, ints), omega (arith, ints))
+holds_first e (Some s) = (omega (arith, ints, clamps), omega (arith, ints, clamps))
+
+holds_later : (e f : Entry) (s : Option Marks) → Holds e s → Holds e (joined_marks (entry_span f) s)
+unfolding Holds
+holds_later e f None h = absurd h
+holds_later e f (Some s) h = let a = h.0 in let b = h.1 in (omega (arith, ints, clamps), omega (arith, ints, clamps))
+
+held : (es : List Entry) (k : ℕ) (e : Entry) → slice_get es k ≡ Some e → Holds e (span_of es)
+held [] k e h = cc
+held (f ∷ es) zero e h =
+    let same : f ≡ e = cc in
+    subst (λ (x : Entry). Holds x (joined_marks (entry_span f) (span_of es))) same (holds_first f (span_of es))
+held (f ∷ es) (suc k) e h = holds_later e f (span_of es) (held es k e h)
+
+entry_fits : (m : Marked) → IsInRange m → (k : ℕ) (e : Entry) → slice_get m.entries k ≡ Some e → FitsDisp e.disp
+unfolding Holds
+entry_fits m range k e h = cases (length m.entries == 0) (subst (Holds e) (sym (true_span_is m)) (held m.entries k e h))
+  where
+    between : (d n low high : ℤ) → FitsDisp low → FitsDisp high → pos 0 ≤ℤ n → low ≤ℤ d → (d +ℤ n) ≤ℤ high → FitsDisp d
+    between d n low high a b c p q = let w = a.0 in let z = b.1 in (omega (arith, ints), omega (arith, ints))
+
+    cases : (b : Bool) → Holds e (cond b None (Some (record { lb = true_lb m.entries; ub = true_ub m.entries }))) → FitsDisp e.disp
+    cases true held = absurd held
+    cases false held =
+        between e.disp (pos (native_size e.kind)) (true_lb m.entries) (true_ub m.entries) range.true_lb range.true_ub (omega (arith, ints)) held.0 held.1
+
+-- an entry of a copy
+pub moved_fits : (m : Marked) → IsInRange m → (k : ℕ) (x : ℤ) (r : Option Entry) → slice_get m.entries k ≡ option_map (shift_entry x) r → IfSome r (λ e. FitsDisp (e.disp +ℤ x))
+moved_fits m range k x None h = tt
+moved_fits m range k x (Some e) h = entry_fits m range k (shift_entry x e) h
+
+pub all_of_map : {X Y : Type 0} (P : Y → Type 0) (f : X → Y) (xs : List X) → AllByRecursion P (map f xs) → AllByRecursion (λ x. P (f x)) xs
+all_of_map P f [] h = tt
+all_of_map P f (x ∷ xs) h = (h.0, all_of_map P f xs h.1)

@@ -1,0 +1,114 @@
+-- A run goes on by one line, ends, or is cut short.
+use Rattle.std.proofs.Common.{◌≡◌, ℕ, Bool, true, false, ◌&&◌, List, [], ◌∷◌, ◌++◌, take, drop, Option, Some, None, refl, ap, sym, subst, ◌∙◌, append_assoc, take-append-drop}
+use Rattle.std.proofs.KnownBytes.{Appends-nil, Appends-trans}
+use Rattle.std.proofs.Math.Bool.{and-true}
+use Rattle.std.proofs.lemmas.Grind.{flat_map-append}
+use Rattle.std.proofs.lemmas.List.{append-nil}
+use Rattle.std.proofs.lemmas.List.Folds.{list_all-append}
+use Rattle.std.specs.Io.KnownBytes.{Appends}
+use Rattle.dt_base.specs.Transfer.{AppendsFront}
+use Rattle.dt_machine.specs.Answers.{Run, Answers, script_lines, text_of_all, are_accepted}
+use Rattle.dt_machine.specs.Reply.{Reply, text_of, is_accepted, Gives, Responds}
+use Rattle.dt_machine.specs.State.{State, first_state}
+use Rattle.dt_machine.specs.Step.{Step}
+use Rattle.dtt.specs.Progress.{Progress}
+use Rattle.dtt.specs.Result.{IsFront, Told, Holds}
+
+-- one line more
+run_more : (s t u : State) (lines : List (List ℕ)) (replies : List Reply) (line : List ℕ) (reply : Reply)
+    → Run s lines replies t → Step t line reply u → Run s (lines ++ line ∷ []) (replies ++ reply ∷ []) u
+run_more s t u [] [] line reply run step =
+    let P : State → Type 0 = λ x. Step x line reply u in (u, subst P run step, refl)
+run_more s t u [] (r ∷ rs) line reply run step = absurd run
+run_more s t u (l ∷ ls) [] line reply run step = absurd run
+run_more s t u (l ∷ ls) (r ∷ rs) line reply (mid, first, later) step = (mid, first, run_more mid t u ls rs line reply later step)
+
+text_more : (replies : List Reply) (reply : Reply) → text_of_all (replies ++ reply ∷ []) ≡ text_of_all replies ++ text_of reply
+text_more replies reply = flat_map-append text_of replies (reply ∷ []) ∙ ap (λ x. text_of_all replies ++ x) (append-nil (text_of reply))
+
+accepted_more : (replies : List Reply) (reply : Reply) → are_accepted (replies ++ reply ∷ []) ≡ (are_accepted replies && is_accepted reply)
+accepted_more replies reply = list_all-append is_accepted replies (reply ∷ []) ∙ ap (λ b. are_accepted replies && b) (and-true (is_accepted reply))
+
+pub begun : (input : List ℕ) (known : Option (List ℕ)) → Progress input input first_state true known known
+begun input known = record { lines = []; replies = []; split = refl; run = refl; written = Appends-nil known; told = refl }
+
+pub gone_on : (input rest line after : List ℕ) (s t : State) (accepted said : Bool) (old mid new : Option (List ℕ)) (out : List ℕ)
+    → Progress input rest s accepted old mid → script_lines rest ≡ line ∷ script_lines after
+    → Responds (λ reply. Step s line reply t) said [] out → Appends mid new out
+    → Progress input after t (accepted && said) old new
+gone_on input rest line after s t accepted said old mid new out p cut (reply, step, gives) writes =
+    let P : List ℕ → Type 0 = λ x. Appends old new x in
+    let Q : List ℕ → Type 0 = λ x. Appends mid new x in
+    record {
+      lines = p.lines ++ line ∷ [];
+      replies = p.replies ++ reply ∷ [];
+      split = p.split ∙ ap (λ ls. p.lines ++ ls) cut ∙ sym (append_assoc p.lines (line ∷ []) (script_lines after));
+      run = run_more first_state s t p.lines p.replies line reply p.run step;
+      written = subst P (sym (text_more p.replies reply)) (Appends-trans old mid new (text_of_all p.replies) (text_of reply) p.written (subst Q gives.text writes));
+      told = ap (λ b. b && said) p.told ∙ ap (λ b. are_accepted p.replies && b) gives.answer ∙ sym (accepted_more p.replies reply);
+    }
+
+pub ended : (input : List ℕ) (s : State) (accepted : Bool) (old new : Option (List ℕ)) → Progress input [] s accepted old new
+    → (text : List ℕ) × Appends old new text × Answers input text accepted
+ended input s accepted old new p =
+    let P : List (List ℕ) → Type 0 = λ ls. Run first_state ls p.replies s in
+    let all : p.lines ≡ script_lines input = sym (p.split ∙ append-nil p.lines) in
+    (text_of_all p.replies, p.written, record { replies = p.replies; last = s; run = subst P all p.run; written = refl; told = p.told })
+
+pub cut_short : (input rest : List ℕ) (s : State) (accepted : Bool) (old new : Option (List ℕ)) → Progress input rest s accepted old new
+    → (text : List ℕ) × Appends old new text × IsFront input text
+cut_short input rest s accepted old new p = (
+  text_of_all p.replies,
+  p.written,
+  record {
+    lines = p.lines;
+    later = script_lines rest;
+    split = p.split;
+    replies = p.replies;
+    last = s;
+    run = p.run;
+    unwritten = [];
+    written = sym (append-nil (text_of_all p.replies));
+  },
+)
+
+pub cut_in_reply : (input rest line after : List ℕ) (s t : State) (accepted said : Bool) (old mid new : Option (List ℕ)) (out : List ℕ)
+    → Progress input rest s accepted old mid → script_lines rest ≡ line ∷ script_lines after
+    → Responds (λ reply. Step s line reply t) said [] out → AppendsFront mid new out
+    → (text : List ℕ) × Appends old new text × IsFront input text
+cut_in_reply input rest line after s t accepted said old mid new out p cut (reply, step, gives) (n, small, writes) =
+    let whole : text_of_all (p.replies ++ reply ∷ []) ≡ text_of_all p.replies ++ take n out ++ drop n out =
+    text_more p.replies reply ∙ ap (λ x. text_of_all p.replies ++ x) (sym gives.text ∙ sym (take-append-drop n out))
+    ∙ sym (append_assoc (text_of_all p.replies) (take n out) (drop n out)) in (
+      text_of_all p.replies ++ take n out,
+      Appends-trans old mid new (text_of_all p.replies) (take n out) p.written writes,
+      record {
+        lines = p.lines ++ line ∷ [];
+        later = script_lines after;
+        split = p.split ∙ ap (λ ls. p.lines ++ ls) cut ∙ sym (append_assoc p.lines (line ∷ []) (script_lines after));
+        replies = p.replies ++ reply ∷ [];
+        last = t;
+        run = run_more first_state s t p.lines p.replies line reply p.run step;
+        unwritten = drop n out;
+        written = whole;
+      },
+    )
+
+-- where nothing was written, that is a front of the replies
+pub nothing_written : (left held : Option (List ℕ)) → Told left held (λ input before. Holds held before (λ text. IsFront input text))
+nothing_written None held = tt
+nothing_written (Some input) None = tt
+nothing_written (Some input) (Some before) = (
+  [],
+  ap (λ x. Some x) (sym (append-nil before)),
+  record {
+    lines = [];
+    later = script_lines input;
+    split = refl;
+    replies = [];
+    last = first_state;
+    run = refl;
+    unwritten = [];
+    written = refl;
+  },
+)

@@ -1,0 +1,14 @@
+use Rattle.std.proofs.Common.{◌≡◌, ◌==◌, length, arith, sym, subst, eq-eqb, ℕ}
+use Rattle.std.proofs.lemmas.List.Sums.{position_or_len_is}
+use Rattle.std.specs.List.{position_or_len}
+use Rattle.dtt.proofs.lines.line_len.Goals as goal
+
+pub returns-then-b-eq10-clause-exact : goal.returns-then-b-eq10-clause-exact
+returns-then-b-eq10-clause-exact c =
+    position_or_len_is (λ b. b == 10) c.args.bytes.now c.loop-i.i 0 (omega arith) c.loop-i.invariant (λ _. eq-eqb _ 10 c.if-b-eq10.true)
+
+pub returns-clause-exact : goal.returns-clause-exact
+returns-clause-exact c =
+    let all : c.loop-i.i ≡ length c.args.bytes.now = omega arith in
+    let P : ℕ → Type 0 = λ n. position_or_len (λ b. b == 10) c.args.bytes.now ≡ n in
+    subst P all (position_or_len_is (λ b. b == 10) c.args.bytes.now c.loop-i.i 0 (omega arith) c.loop-i.invariant (λ h. absurd (omega arith)))
