@@ -5,6 +5,7 @@ ghost use Rattle.dt_type.specs.Arguments.{is_count};
 ghost use Rattle.dt_type.specs.Conditions.{IsFactor};
 ghost use Rattle.dt_type.specs.Form.{result_of};
 
+use crate::made::ends;
 use dt_kinds::Kind;
 use dt_map::{Bounds, Marks};
 use dt_type::{
@@ -282,12 +283,6 @@ fn pair(
     let shape = ShapeOf::Seq { parts: rows };
     let form = FormOf::Struct { parts };
     Ok(Datatype::make(alloc, shape, Cover::Keep, form))
-}
-
-/// The true bounds, and then the bounds.
-fn ends(made: &Datatype) -> [i64; 4] {
-    let bounds = made.bounds();
-    [bounds.true_lb, bounds.true_ub, bounds.lb, bounds.ub]
 }
 
 /// The marks of a struct are those around the marked copies that it places.

@@ -5,7 +5,15 @@
 #[cfg(test)]
 mod datatypes;
 #[cfg(test)]
+mod elements;
+#[cfg(test)]
 mod kinds;
+#[cfg(test)]
+mod made;
+#[cfg(test)]
+mod placements;
+#[cfg(test)]
+mod ranges;
 #[cfg(test)]
 mod sinks;
 #[cfg(test)]
