@@ -33,17 +33,21 @@ fn the_largest_displacement(rt: HostRuntime) -> Result<(), Fail> {
     Ok(())
 }
 
-/// `2^60` bytes are the most: `2^57` longs, all at 0.
+/// So many rows of so many longs, all at 0.
+fn longs_at_zero(alloc: Global, rows: i32, columns: i32) -> Result<Datatype, Fail> {
+    let long = Datatype::named(alloc, Kind::Long)?;
+    let row = hvector(alloc, columns, 1, 0, &long)?;
+    Ok(hvector(alloc, rows, 1, 0, &row)?)
+}
+
+/// `2^60` bytes are the most: 2^30 times 2^27 longs.
 #[test]
 fn the_greatest_size(rt: HostRuntime) -> Result<(), Fail> {
     let alloc = rt.alloc();
-    let long = Datatype::named(alloc, Kind::Long)?;
-    let row = hvector(alloc, 1 << 27, 1, 0, &long)?;
-    let rows = hvector(alloc, 1 << 30, 1, 0, &row)?;
-    let bounds = rows.bounds();
-    assert_eq!(rt; (bounds.size, bounds.elements), (1 << 60, 1 << 57));
-    assert_eq!(rt; ends(&rows), [0, 8, 0, 8]);
-    let parts = at_each(alloc, &[0, 0], &rows)?;
+    let made = longs_at_zero(alloc, 1_073_741_824, 134_217_728)?;
+    assert_eq!(rt; made.bounds().size, MOST.unsigned_abs());
+    assert_eq!(rt; ends(&made), [0, 8, 0, 8]);
+    let parts = at_each(alloc, &[0, 0], &made)?;
     assert_eq!(rt; structure(alloc, &parts).err(), Some(CtorFault::Overflow));
     Ok(())
 }
