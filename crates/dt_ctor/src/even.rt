@@ -31,7 +31,6 @@ fn turns_of(count: u32, block: u32, jump: i128, step: i128) -> Turns
 }
 
 /// A shape that places `count` blocks of `block` copies, one `jump` apart, one extent apart within a block.
-#[tactic(auto, using(crate::proofs::Blocks::placed))]
 fn blocks_of(
     alloc: Global,
     count: i32,

@@ -1,4 +1,4 @@
-//! The constructors of MPI 4.1, section 5.1.2, with those of sections 5.1.7 and 5.1.9 that resize a datatype or duplicate it.
+//! The constructors of MPI 4.1, section 5.1.2, with those of sections 5.1.7 and 5.1.10 that resize a datatype or duplicate it.
 #![tactic(auto)]
 
 mod built;

@@ -10,7 +10,6 @@ use sqlite_items::Items;
 use std::alloc::Global;
 
 /// A shape that places one copy at 0.
-#[tactic(auto, using(crate::proofs::OneCopy::placed_once))]
 fn one_of(alloc: Global, old: &Datatype) -> Result<Shape, CtorFault>
     ensures { IfMemory result (λ s. Places s (FormOf.Dup old.now)) }
 {
