@@ -6,13 +6,13 @@ use std::alloc::Global;
 use std::test::Fail;
 
 /// The true bounds, and then the bounds.
-pub fn ends(made: &Datatype) -> [i64; 4] {
+pub(crate) fn ends(made: &Datatype) -> [i64; 4] {
     let bounds = made.bounds();
     [bounds.true_lb, bounds.true_ub, bounds.lb, bounds.ub]
 }
 
 /// The displacements of the entries, in their order.
-pub fn places(alloc: Global, made: &Datatype) -> Result<Vec<i64>, Fail> {
+pub(crate) fn places(alloc: Global, made: &Datatype) -> Result<Vec<i64>, Fail> {
     let mut list = Vec::new(alloc);
     for at in 0..made.bounds().elements {
         if let Some(entry) = made.entry_at(at) {
@@ -23,7 +23,7 @@ pub fn places(alloc: Global, made: &Datatype) -> Result<Vec<i64>, Fail> {
 }
 
 /// One copy of `old` at each displacement.
-pub fn at_each(alloc: Global, disps: &[i64], old: &Datatype) -> Result<Vec<Part>, Fail> {
+pub(crate) fn at_each(alloc: Global, disps: &[i64], old: &Datatype) -> Result<Vec<Part>, Fail> {
     let mut parts = Vec::new(alloc);
     for disp in disps {
         parts.push(Part {
@@ -36,7 +36,7 @@ pub fn at_each(alloc: Global, disps: &[i64], old: &Datatype) -> Result<Vec<Part>
 }
 
 /// A struct of `first` at 0, and of `second` at `disp`, `len` times.
-pub fn pair(
+pub(crate) fn pair(
     alloc: Global,
     first: &Datatype,
     second: &Datatype,
