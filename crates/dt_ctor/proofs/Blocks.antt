@@ -7,6 +7,7 @@ use Rattle.std.proofs.lemmas.List.{append-nil}
 use Rattle.dt_map.specs.Bounds.{extent_of}
 use Rattle.dt_map.specs.Constructors.{copies_at}
 use Rattle.dt_map.specs.Numbers.{below}
+use Rattle.dt_map.proofs.Offsets.{in_rows_of}
 use Rattle.dt_type.specs.declared.datatype.Seen.{Seen}
 use Rattle.dt_type.specs.declared.form.FormOf.TheVariants.{Contiguous, Vector, Hvector}
 use Rattle.dt_type.specs.declared.shape.ShapeOf.{ShapeOf}
@@ -16,7 +17,6 @@ use Rattle.dt_type.specs.Conditions.{AreTurns}
 use Rattle.dt_type.specs.Constructors.{contiguous_offsets, hvector_offsets, vector_offsets}
 use Rattle.dt_type.specs.Datatype.{typemap_of}
 use Rattle.dt_type.specs.Shape.{turn_offset, turn_offsets}
-use Rattle.dt_type.proofs.InRows.{in_rows}
 use Rattle.dt_ctor.specs.Places.{Places}
 use Rattle.dt_ctor.proofs.Products.{sum_times, product_times}
 
@@ -38,7 +38,7 @@ in_blocks count (suc b) jump step =
     let f : ℕ → ℕ → ℤ = λ i j. (pos 0 +ℤ (pos i *ℤ jump)) +ℤ (pos j *ℤ step) in
     ap (λ k. map (turn_offset (turns (count * suc b) k jump step)) (below (count * suc b))) same
     ∙ ap (λ n. map (λ q. f (q / suc b) (q % suc b)) (below n)) whole
-    ∙ in_rows f (suc b) count 0 (omega arith)
+    ∙ in_rows_of f (suc b) count 0 (omega arith)
     ∙ append-nil (flat_map (λ i. map (f i) (below (suc b))) (below count))
     ∙ simp +ℤ_idl
 

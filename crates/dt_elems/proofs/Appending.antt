@@ -6,7 +6,8 @@ use Rattle.std.proofs.lemmas.Bool.{cases_lt, and_parts}
 use Rattle.std.proofs.lemmas.Grind.{flat_map-append}
 use Rattle.std.proofs.lemmas.List.{map-append}
 use Rattle.std.proofs.lemmas.List.Folds.{list_all-append}
-use Rattle.dt_kinds.specs.declared.kind.Rep.TheVariants.{Native}
+use Rattle.dt_kinds.specs.declared.kind.Rep.{Rep}
+use Rattle.dt_kinds.specs.Image.{image}
 use Rattle.dt_map.specs.declared.typemap.Entry.{Entry}
 use Rattle.dt_map.specs.Bounds.{extent_of}
 use Rattle.dt_map.specs.Elements.{elements, are_inside, lies_inside}
@@ -44,29 +45,29 @@ take_one [] k e is = cc
 take_one (f ∷ es) zero e is = let same : f ≡ e = cc in ap (λ g. g ∷ []) same
 take_one (f ∷ es) (suc k) e is = ap (λ s. f ∷ s) (take_one es k e is)
 
-packed-append : (es fs : List Entry) (buffer : List ℕ) → packed Native (es ++ fs) buffer ≡ packed Native es buffer ++ packed Native fs buffer
-packed-append es fs buffer = flat_map-append (bytes_at buffer) es fs
+packed-append : (rep : Rep) (es fs : List Entry) (buffer : List ℕ) → packed rep (es ++ fs) buffer ≡ packed rep es buffer ++ packed rep fs buffer
+packed-append rep es fs buffer = flat_map-append (λ e. image rep e.kind (bytes_at buffer e)) es fs
 
-appended : (es fs gs : List Entry) (buffer old mid new : List ℕ) → gs ≡ es ++ fs → mid ≡ old ++ packed Native es buffer → new ≡ mid ++ packed Native fs buffer
-    → new ≡ old ++ packed Native gs buffer
-appended es fs gs buffer old mid new parts before after =
-    after ∙ ap (λ s. s ++ packed Native fs buffer) before ∙ append_assoc old (packed Native es buffer) (packed Native fs buffer)
-    ∙ ap (λ s. old ++ s) (sym (packed-append es fs buffer)) ∙ ap (λ s. old ++ packed Native s buffer) (sym parts)
+appended : (rep : Rep) (es fs gs : List Entry) (buffer old mid new : List ℕ) → gs ≡ es ++ fs → mid ≡ old ++ packed rep es buffer → new ≡ mid ++ packed rep fs buffer
+    → new ≡ old ++ packed rep gs buffer
+appended rep es fs gs buffer old mid new parts before after =
+    after ∙ ap (λ s. s ++ packed rep fs buffer) before ∙ append_assoc old (packed rep es buffer) (packed rep fs buffer)
+    ∙ ap (λ s. old ++ s) (sym (packed-append rep es fs buffer)) ∙ ap (λ s. old ++ packed rep s buffer) (sym parts)
 
-pub entry_more : (x : ℤ) (es : List Entry) (k : ℕ) (e : Entry) (buffer old mid new bytes : List ℕ) → slice_get es k ≡ Some e
-    → mid ≡ old ++ packed Native (shift x (take k es)) buffer → new ≡ mid ++ bytes → bytes ≡ bytes_at buffer (shift_entry x e)
-    → new ≡ old ++ packed Native (shift x (take (k + 1) es)) buffer
-entry_more x es k e buffer old mid new bytes is before after found =
+pub entry_more : (rep : Rep) (x : ℤ) (es : List Entry) (k : ℕ) (e : Entry) (buffer old mid new bytes : List ℕ) → slice_get es k ≡ Some e
+    → mid ≡ old ++ packed rep (shift x (take k es)) buffer → new ≡ mid ++ bytes → bytes ≡ image rep e.kind (bytes_at buffer (shift_entry x e))
+    → new ≡ old ++ packed rep (shift x (take (k + 1) es)) buffer
+entry_more rep x es k e buffer old mid new bytes is before after found =
     let taken : take (k + 1) es ≡ take k es ++ e ∷ [] = ap (λ n. take n es) (add-one k) ∙ take_one es k e is in
     let parts = ap (shift x) taken ∙ map-append (shift_entry x) (take k es) (e ∷ []) in
-    appended (shift x (take k es)) (shift x (e ∷ [])) (shift x (take (k + 1) es)) buffer old mid new parts before
-    (after ∙ ap (λ s. mid ++ s) (found ∙ sym (append-nil (bytes_at buffer (shift_entry x e)))))
+    appended rep (shift x (take k es)) (shift x (e ∷ [])) (shift x (take (k + 1) es)) buffer old mid new parts before
+    (after ∙ ap (λ s. mid ++ s) (found ∙ sym (append-nil (image rep e.kind (bytes_at buffer (shift_entry x e))))))
 
 -- one more copy
-pub copy_more : (m : Marked) (k : ℕ) (origin at : ℤ) (buffer mid new : List ℕ) → at ≡ origin +ℤ (pos k *ℤ extent_of m)
-    → mid ≡ packed Native (elements m k origin) buffer → new ≡ mid ++ packed Native (shift at m.entries) buffer
-    → new ≡ packed Native (elements m (k + 1) origin) buffer
-copy_more m k origin at buffer mid new is before after =
+pub copy_more : (rep : Rep) (m : Marked) (k : ℕ) (origin at : ℤ) (buffer mid new : List ℕ) → at ≡ origin +ℤ (pos k *ℤ extent_of m)
+    → mid ≡ packed rep (elements m k origin) buffer → new ≡ mid ++ packed rep (shift at m.entries) buffer
+    → new ≡ packed rep (elements m (k + 1) origin) buffer
+copy_more rep m k origin at buffer mid new is before after =
     let parts = ap (λ n. elements m n origin) (add-one k) ∙ elements_of_more m k origin in
-    let here = after ∙ ap (λ z. mid ++ packed Native (shift z m.entries) buffer) is in
-    appended (elements m k origin) _ (elements m (k + 1) origin) buffer [] mid new parts before here
+    let here = after ∙ ap (λ z. mid ++ packed rep (shift z m.entries) buffer) is in
+    appended rep (elements m k origin) _ (elements m (k + 1) origin) buffer [] mid new parts before here

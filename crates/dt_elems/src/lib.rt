@@ -5,5 +5,5 @@ mod bytes;
 mod place;
 mod span;
 
-pub use bytes::native_bytes;
+pub use bytes::packed_bytes;
 pub use span::{packed_size, span_inside};

@@ -1,4 +1,9 @@
-pub mod PackingLemmas
-pub mod VectorLemmas
-pub mod StepLemmas
-pub mod RangeLemmas
+pub mod Definitions
+pub mod Fills
+pub mod Least
+pub mod Lines
+pub mod NamedTypes
+pub mod Operations
+pub mod Outcomes
+pub mod Standing
+pub mod TypeWords

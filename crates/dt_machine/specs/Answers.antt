@@ -1,7 +1,7 @@
 -- The answers to a script: the replies to its lines, one after another.
 use Rattle.std.specs.Prelude.{◌≡◌, ℕ, ◌-◌, ◌==◌, nat_eq, take, length, Bool, if◌then◌else◌, List, [], ◌∷◌, map}
 use Rattle.std.specs.List.{flat_map, list_all, ends_with}
-use Rattle.dt_machine.specs.Reply.{Reply, text_of, is_accepted}
+use Rattle.dt_reply.specs.Reply.{Reply, text_of, is_accepted}
 use Rattle.dt_machine.specs.State.{State, first_state}
 use Rattle.dt_machine.specs.Step.{Step}
 

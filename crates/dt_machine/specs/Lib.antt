@@ -1,10 +1,10 @@
 pub mod Answers
-pub mod Layout
-pub mod Near
-pub mod Packing
-pub mod Range
+pub mod Find
+pub mod Made
+pub mod Operation
+pub mod Outcome
 pub mod Refusal
-pub mod Reply
+pub mod Standing
 pub mod State
 pub mod Step
-pub mod Vector
+pub use Rattle.dt_reply.specs.Reply

@@ -1,35 +1,64 @@
 -- What a line does to the state, and what is replied.
-use Rattle.std.specs.Prelude.{◌≡◌, ℕ, nat_abs, List, Some, MatchOption}
-use Rattle.dt_map.specs.Constructors.{hvector}
-use Rattle.dt_map.specs.Elements.{elements}
+use Rattle.std.specs.Prelude.{◌≡◌, ℕ, if◌then◌else◌, List, Some, ◌⊎◌}
+use Rattle.dt_map.specs.Bounds.{bounds_of}
 use Rattle.dt_map.specs.Packed.{packed}
-use Rattle.dt_map.specs.Typemap.{Marked}
+use Rattle.dt_reply.specs.declared.refusal.Refusal.{Refusal}
+use Rattle.dt_reply.specs.declared.refusal.Refusal.TheVariants.{Syntax}
+use Rattle.dt_reply.specs.Reply.{Reply, Silent, Done, Packed, Shown, Told, Listed, Described, Contained, Refused}
 use Rattle.dt_script.specs.declared.command.Command.{Command}
-use Rattle.dt_script.specs.declared.command.Command.TheVariants.{Define, Buffer, Bytes}
-use Rattle.dt_script.specs.declared.command.Ctor.TheVariants.{Hvector}
-use Rattle.dt_script.specs.declared.command.Fill.TheVariants.{Count}
+use Rattle.dt_script.specs.declared.command.Command.TheVariants.{Define, Child, Commit, Free, Info, Map, Envelope, Contents, Buffer, Show, Bytes}
+use Rattle.dt_script.specs.Name.{begins_with_mpi}
 use Rattle.dt_script.specs.Line.{Meaning, Blank, Fault, Does, IsLine}
-use Rattle.dt_machine.specs.declared.refusal.Refusal.TheVariants.{Syntax}
-use Rattle.dt_machine.specs.Refusal.{refusal_of}
-use Rattle.dt_machine.specs.Reply.{Reply, Silent, Done, Packed, Refused}
-use Rattle.dt_machine.specs.State.{State, type_of, buffer_of, with_type, with_buffer, counting}
+use Rattle.dt_type.specs.declared.datatype.Seen.{Seen}
+use Rattle.dt_type.specs.declared.form.FormOf.{FormOf}
+use Rattle.dt_type.specs.Basic.{is_basic}
+use Rattle.dt_type.specs.Contents.{old_at, envelope_of, contents_of}
+use Rattle.dt_type.specs.Datatype.{typemap_of, form_of}
+use Rattle.dt_type.specs.Form.{olds_of, result_of}
+use Rattle.dt_machine.specs.declared.state.Kept.{Kept}
+use Rattle.dt_machine.specs.Made.{form_in, is_committed_by}
+use Rattle.dt_machine.specs.Refusal.{elements_of, IsRefusedBy, IsAllowed}
+use Rattle.dt_machine.specs.State.{State, type_of, buffer_of, bytes_of, with_type, with_committed, without_type, with_buffer, counted}
 
--- what a command does that is not refused
+-- what a command replies and changes that is not refused
 abbrev pub Performs : Command → State → Reply → State → Type 0
--- the new name stands for the vector of the old type
-Performs (Define name (Hvector count block stride old)) s reply t =
-    (m : Marked) × (type_of s old ≡ Some m) × (reply ≡ Done) × (t ≡ with_type s name (hvector (nat_abs count) (nat_abs block) stride m))
+-- the new name stands for the type that the constructor gives
+Performs (Define name ctor) s reply t =
+    (form : FormOf Seen) × (form_in s ctor ≡ Some form) × (reply ≡ Done)
+    × (t ≡ counted (with_type s name (record { ty = result_of form; committed = is_committed_by s ctor })))
+-- the new name stands for an old type of the type, which is committed where it is basic
+Performs (Child name ty k) s reply t =
+    (kept : Kept) × (old : Seen) × (type_of s ty ≡ Some kept) × (old_at (olds_of (form_of kept.ty)) k ≡ Some old) × (reply ≡ Done)
+    × (t ≡ counted (with_type s name (record { ty = old; committed = is_basic old })))
+-- the type is committed, as a basic type is already
+Performs (Commit ty) s reply t =
+    (kept : Kept) × (type_of s ty ≡ Some kept) × (reply ≡ Done) × (t ≡ counted (if begins_with_mpi ty then s else with_committed s ty kept))
+-- the name stands for nothing from now on
+Performs (Free ty) s reply t = (reply ≡ Done) × (t ≡ counted (without_type s ty))
+-- the bounds of the type are told, and whether it is committed
+Performs (Info ty) s reply t =
+    (kept : Kept) × (type_of s ty ≡ Some kept) × (reply ≡ Told (bounds_of (typemap_of kept.ty)) kept.committed) × (t ≡ counted s)
+-- its typemap is listed with the marks
+Performs (Map ty) s reply t = (kept : Kept) × (type_of s ty ≡ Some kept) × (reply ≡ Listed (typemap_of kept.ty)) × (t ≡ counted s)
+-- its envelope is told, and its contents are listed
+Performs (Envelope ty) s reply t =
+    (kept : Kept) × (type_of s ty ≡ Some kept) × (reply ≡ Described (envelope_of (form_of kept.ty))) × (t ≡ counted s)
+Performs (Contents ty) s reply t =
+    (kept : Kept) × (type_of s ty ≡ Some kept) × (reply ≡ Contained (contents_of (form_of kept.ty))) × (t ≡ counted s)
 -- the new name stands for the bytes
-Performs (Buffer name (Count len)) s reply t = (reply ≡ Done) × (t ≡ with_buffer s name (counting (nat_abs len)))
+Performs (Buffer name fill) s reply t = (reply ≡ Done) × (t ≡ counted (with_buffer s name (bytes_of fill)))
+-- the whole buffer is shown
+Performs (Show buffer) s reply t = (bytes : List ℕ) × (buffer_of s buffer ≡ Some bytes) × (reply ≡ Shown bytes) × (t ≡ counted s)
 -- the packed bytes are those of the elements, read from the buffer
 Performs (Bytes rep count ty buffer origin) s reply t =
-    (m : Marked) × (bytes : List ℕ) × (type_of s ty ≡ Some m) × (buffer_of s buffer ≡ Some bytes)
-    × (reply ≡ Packed (packed rep (elements m (nat_abs count) origin) bytes)) × (t ≡ s)
+    (kept : Kept) × (bytes : List ℕ) × (type_of s ty ≡ Some kept) × (buffer_of s buffer ≡ Some bytes)
+    × (reply ≡ Packed (packed rep (elements_of kept count origin) bytes)) × (t ≡ counted s)
 
--- a command is refused by the least number whose condition holds, and then changes nothing; else it is performed
+-- a command is refused and changes nothing, or it is performed
 abbrev pub Obeys : Command → State → Reply → State → Type 0
 Obeys command s reply t =
-    MatchOption (refusal_of s command) (Performs command s reply t) (λ r. (reply ≡ Refused r) × (t ≡ s))
+    ((refusal : Refusal) × IsRefusedBy s command refusal × (reply ≡ Refused refusal) × (t ≡ s))
+    ⊎ (IsAllowed s command × Performs command s reply t)
 
 -- a blank or comment line does nothing, and a fault is refused
 abbrev pub Meets : Meaning → State → Reply → State → Type 0

@@ -1,5 +1,6 @@
-ghost use Rattle.std.specs.Prelude.{◌≡◌, IfOk};
-ghost use Rattle.dt_machine.specs.State.{counting};
+ghost use Rattle.std.specs.Prelude.{◌≡◌, IfOk, length, pos};
+ghost use Rattle.dt_machine.specs.State.{bytes_of};
+ghost use Rattle.dt_script.specs.declared.command.Fill.TheVariants.{Zero, Count, Hex};
 
 use dt_kinds::NoMemory;
 use std::alloc::Global;
@@ -20,9 +21,18 @@ impl Model for Buffer {
 }
 
 impl Buffer {
+    /// A buffer of zeros.
+    pub(crate) fn zeros(alloc: Global, len: u32) -> Result<Buffer, NoMemory>
+        ensures { IfOk result (λ b. b ≡ bytes_of (Zero (pos len))) }
+    {
+        let mut bytes = Vec::new(alloc);
+        bytes.resize(len as usize, 0)?;
+        Ok(Buffer { bytes })
+    }
+
     /// A buffer whose byte i is i mod 256.
     pub(crate) fn counting(alloc: Global, len: u32) -> Result<Buffer, NoMemory>
-        ensures { IfOk result (λ b. b ≡ counting len) }
+        ensures { IfOk result (λ b. b ≡ bytes_of (Count (pos len))) }
     {
         let mut bytes = Vec::new(alloc);
         for i in 0..len {
@@ -31,9 +41,23 @@ impl Buffer {
         Ok(Buffer { bytes })
     }
 
+    /// A buffer of these bytes.
+    pub(crate) fn copy_of(alloc: Global, bytes: &[u8]) -> Result<Buffer, NoMemory>
+        ensures { IfOk result (λ b. b ≡ bytes.now) }
+    {
+        let bytes = Vec::from_slice(alloc, bytes)?;
+        Ok(Buffer { bytes })
+    }
+
     pub(crate) fn as_slice(&self) -> &[u8]
         ensures { result.now ≡ self.now }
     {
         &self.bytes
+    }
+
+    pub(crate) fn len(&self) -> usize
+        ensures { result ≡ length self.now }
+    {
+        self.bytes.len()
     }
 }

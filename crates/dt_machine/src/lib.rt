@@ -2,13 +2,17 @@
 #![tactic(auto)]
 
 mod buffer;
+mod bytes;
+mod define;
+mod fill;
+pub mod find;
 pub mod machine;
-mod packing;
+mod names;
+mod outcome;
+mod queries;
+pub mod state;
+mod types;
 
+pub use find::Found;
 pub use machine::Machine;
-
-pub mod refusal;
-mod reply;
-mod vector;
-
-pub use refusal::Refusal;
+pub use state::{Kept, Totals};

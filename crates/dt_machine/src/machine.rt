@@ -1,59 +1,44 @@
-ghost use Rattle.std.specs.Prelude.{◌≡◌, ◌||◌, ◌-ℤ◌, List, ℕ, IfOk, OnOk, OnErr, MatchOption, codes, None, Some, is_some, is_none};
-ghost use Rattle.std.specs.Borrow.{Bor};
-ghost use Rattle.dt_map.specs.declared.typemap.Entry.{Entry as EntryValue};
-ghost use Rattle.dt_map.specs.Bounds.{extent_of};
-ghost use Rattle.dt_map.specs.Typemap.{Marked};
-ghost use Rattle.dt_machine.specs.Near.{IsBetween};
-ghost use Rattle.dt_machine.specs.Layout.{IsLayoutOf};
-ghost use Rattle.dt_machine.specs.Range.{IsCount, IsWritten};
-ghost use Rattle.dt_machine.specs.Reply.{Reply, Refused, Gives, Responds};
-ghost use Rattle.dt_machine.specs.State.{first_state, type_of, buffer_of, is_type_taken, is_buffer_taken, with_type, with_buffer};
+ghost use Rattle.std.specs.Prelude.{◌≡◌, ◌↔◌, ◌++◌, IsTrue, true, false, IfOk, OnOk, OnErr, MatchOption, MatchResult, None, Some, min, length};
+ghost use Rattle.std.specs.Option.{option_map_or};
+ghost use Rattle.dt_kinds.specs.Name.{is_left_out};
+ghost use Rattle.dt_machine.specs.Outcome.{CanChange, ComesTo, IsMissing, changed};
+ghost use Rattle.dt_machine.specs.State.{first_state, type_of, under, buffer_of, is_unknown, is_basic_word, is_type_taken, is_buffer_taken, bytes_held, counted};
+ghost use Rattle.dt_machine.specs.Refusal.{NoMoreTypes};
+ghost use Rattle.dt_machine.specs.Standing.{IsFound};
 ghost use Rattle.dt_machine.specs.Step.{Step, Obeys};
-ghost use Rattle.dt_machine.specs.Vector.{IsStride};
-ghost use Rattle.dt_script.specs.declared.command.Command.TheVariants.{Define, Buffer as BufferCommand, Bytes};
-ghost use Rattle.dt_script.specs.declared.command.Fill.TheVariants.{Count};
-ghost use Rattle.dt_kinds.specs.declared.kind.Rep.TheVariants.{Native};
-ghost use Rattle.dt_script.specs.declared.command.Ctor.TheVariants.{Hvector};
+ghost use Rattle.dt_type.specs.Basic.{is_basic};
+ghost use Rattle.dt_script.specs.Name.{begins_with_mpi};
+ghost use Rattle.dt_reply.specs.Reply.{Refused, Gives, Responds};
 
 use crate::buffer::Buffer;
-use crate::packing::pack;
-use crate::refusal::Refusal;
-use crate::reply::{OK, packed_line, refusal_line};
-use crate::vector::hvector_of_ints;
-use dt_kinds::{Kind, NoMemory};
-use dt_map::{Bounds, Entry, FlatMap};
-use dt_script::{Command, Ctor, Fill, LineFault, Name, parse_line};
+use crate::outcome::{Change, Outcome, Stop};
+use crate::state::{Kept, Totals};
+use crate::types::{Held, Types};
+use dt_kinds::{Kind, KindFault, NoMemory};
+use dt_reply::{Refusal, refusal_line};
+use dt_script::{Command, LineFault, Name, parse_line};
+use dt_type::{Datatype, FormOf};
 use std::alloc::Global;
 use std::collections::BTreeMap;
 use std::marker::Model;
 
-/// The entries of `MPI_INT`.
-const INT: [Entry; 1] = [Entry {
-    kind: Kind::Int,
-    disp: 0,
-}];
+/// So many types may stand.
+const MOST_TYPES: usize = 1024;
 
-/// What an operation needs of a type: its entries, and its extent in bytes.
-#[derive(Clone, Copy)]
-struct Layout<'a> {
-    entries: &'a [Entry],
-    extent: i128,
-}
-
-/// From the lower to the upper bound.
-fn extent(bounds: Bounds) -> i128
-    ensures value { result ≡ bounds.ub -ℤ bounds.lb }
-    ensures between { IsBetween result }
+/// Whether a datatype is basic.
+pub(crate) fn is_basic(ty: &Datatype) -> bool
+    ensures { result ≡ is_basic ty.now }
 {
-    i128::from(bounds.ub) - i128::from(bounds.lb)
+    matches!(ty.form(), FormOf::Named(_))
 }
 
 /// The types and buffers of a script, changed by its lines.
 #[derive(Drop)]
 pub struct Machine {
-    alloc: Global,
-    types: BTreeMap<Name, FlatMap>,
+    pub(crate) alloc: Global,
+    types: Types,
     buffers: BTreeMap<Name, Buffer>,
+    totals: Totals,
 }
 
 impl Model for Machine {
@@ -61,7 +46,19 @@ impl Model for Machine {
 
     ghost Value = { State };
 
-    ghost view = { λ m. record { types = m.types.entries; buffers = m.buffers.entries } };
+    ghost use Rattle.std.specs.Coded.{codes};
+    ghost use Rattle.dt_type.specs.contracts.datatype.Datatype as datatype;
+
+    ghost coded = { Prim.hlevel (codes, datatype.the_row.coded) };
+
+    ghost view = { λ m. record { types = m.types.entries; made = m.types.made; buffers = m.buffers.entries; totals = m.totals } };
+}
+
+/// Whether a type word is the name of a datatype that is left out.
+pub(crate) fn is_left_out(word: &Name) -> bool
+    ensures { result ≡ is_left_out word.now }
+{
+    matches!(Kind::of_name(word.as_bytes()), Err(KindFault::Unsupported))
 }
 
 impl Machine {
@@ -69,46 +66,110 @@ impl Machine {
     pub fn new(alloc: Global) -> Machine
         ensures { result ≡ first_state }
     {
+        let totals = Totals {
+            commands: 0,
+            taken: 0,
+            given: 0,
+            elements: 0,
+            cost: 0,
+        };
         Machine {
             alloc,
-            types: BTreeMap::new(alloc),
+            types: Types::new(alloc),
             buffers: BTreeMap::new(alloc),
+            totals,
         }
     }
 
+    /// What was counted so far.
+    pub fn totals(&self) -> Totals
+        ensures { result ≡ self.now.totals }
+    {
+        self.totals
+    }
+
     /// Whether no new type may have this name.
-    fn is_type_taken(&self, name: &Name) -> bool
+    pub(crate) fn is_type_taken(&self, name: &Name) -> bool
         ensures { result ≡ is_type_taken self.now name.now }
     {
-        name.is_reserved() || self.types.contains_key(name)
+        name.is_reserved() || self.types.contains(name)
     }
 
     /// Whether no new buffer may have this name.
-    fn is_buffer_taken(&self, name: &Name) -> bool
+    pub(crate) fn is_buffer_taken(&self, name: &Name) -> bool
         ensures { result ≡ is_buffer_taken self.now name.now }
     {
         self.buffers.contains_key(name)
     }
 
-    /// What a type word stands for, where it stands for a type.
-    fn layout(&self, name: &Name) -> Option<Layout<'_>>
-        ensures { MatchOption result (type_of self.now name.now ≡ None) (IsLayoutOf (type_of self.now name.now)) }
+    /// The type of a name that was made.
+    pub(crate) fn found(&self, name: &Name) -> Option<Held<'_>>
+        ensures { IsFound (under name.now self.now.types) result }
     {
-        if name.as_bytes() == b"MPI_INT".as_slice() {
-            return Some(Layout {
-                entries: &INT,
-                extent: 4,
-            });
+        self.types.get(name)
+    }
+
+    /// Whether a type word stands for nothing.
+    #[tactic(auto, using(crate::proofs::TypeWords::plain_unknown, crate::proofs::TypeWords::plain_known))]
+    pub(crate) fn is_unknown(&self, word: &Name) -> bool
+        ensures { result ≡ is_unknown self.now word.now }
+    {
+        if word.is_reserved() {
+            matches!(Kind::of_name(word.as_bytes()), Err(KindFault::Unknown))
+        } else {
+            match self.found(word) {
+                Some(_) => false,
+                None => true,
+            }
         }
-        let map = self.types.get(name)?;
-        Some(Layout {
-            entries: map.entries(),
-            extent: extent(map.bounds()),
-        })
+    }
+
+    /// The basic type that a word names that begins as the names of MPI do.
+    fn basic(&self, word: &Name) -> Result<Kept, Stop>
+        requires { begins_with_mpi word.now ≡ true }
+        ensures { MatchResult result (λ kept. type_of self.now word.now ≡ Some kept) (IsMissing self.now word.now) }
+    {
+        match Kind::of_name(word.as_bytes()) {
+            Ok(kind) => Ok(Kept {
+                ty: Datatype::named(self.alloc, kind)?,
+                committed: true,
+            }),
+            Err(KindFault::Unsupported) => Err(Stop::Refused(Refusal::UnsupportedKind)),
+            Err(KindFault::Unknown) => Err(Stop::Refused(Refusal::UnknownName)),
+        }
+    }
+
+    /// What a type word stands for: one more owner of the datatype.
+    pub(crate) fn kept(&self, word: &Name) -> Result<Kept, Stop>
+        ensures { MatchResult result (λ kept. type_of self.now word.now ≡ Some kept) (IsMissing self.now word.now) }
+    {
+        if word.is_reserved() {
+            return self.basic(word);
+        }
+        match self.found(word) {
+            Some(found) => Ok(Kept {
+                ty: found.ty.share()?,
+                committed: found.committed,
+            }),
+            None => Err(Stop::Refused(Refusal::UnknownName)),
+        }
+    }
+
+    /// Whether a type word stands for a type that is committed.
+    pub(crate) fn is_committed(&self, word: &Name) -> bool
+        ensures { result ≡ option_map_or (λ kept. kept.committed) (type_of self.now word.now) false }
+    {
+        if word.is_reserved() {
+            return Kind::of_name(word.as_bytes()).is_ok();
+        }
+        match self.found(word) {
+            Some(found) => found.committed,
+            None => false,
+        }
     }
 
     /// The bytes of a buffer, where it stands.
-    fn buffer(&self, name: &Name) -> Option<&[u8]>
+    pub(crate) fn buffer(&self, name: &Name) -> Option<&[u8]>
         ensures { MatchOption result (buffer_of self.now name.now ≡ None) (λ bytes. buffer_of self.now name.now ≡ Some bytes.now) }
     {
         match self.buffers.get(name) {
@@ -117,24 +178,74 @@ impl Machine {
         }
     }
 
-    /// Remembers one more type.
-    fn add_type(&mut self, name: &Name, map: FlatMap) -> Result<(), NoMemory>
-        ensures ok { OnOk result (self.new ≡ with_type self.old name.now map) }
+    /// Whether a type word stands for a basic type.
+    pub(crate) fn is_basic(&self, word: &Name) -> bool
+        ensures { result ≡ is_basic_word self.now word.now }
+    {
+        if word.is_reserved() {
+            return Kind::of_name(word.as_bytes()).is_ok();
+        }
+        match self.found(word) {
+            Some(found) => is_basic(found.ty),
+            None => false,
+        }
+    }
+
+    /// Whether no more types may stand, or be made.
+    pub(crate) fn is_full(&self) -> bool
+        ensures { IsTrue result ↔ NoMoreTypes self.now }
+    {
+        self.types.len() >= MOST_TYPES || self.types.made() == u64::MAX
+    }
+
+    /// How many buffers stand.
+    pub(crate) fn count_of_buffers(&self) -> usize
+        ensures { result ≡ length self.now.buffers }
+    {
+        self.buffers.len()
+    }
+
+    /// The bytes of all buffers together, as far as 64 bits hold them.
+    pub(crate) fn bytes_held(&self) -> u64
+        ensures { result ≡ min (bytes_held self.now) 18446744073709551615 }
+    {
+        let mut held: u64 = 0;
+        for (_name, buffer) in &self.buffers {
+            held = held.saturating_add(buffer.len() as u64);
+        }
+        held
+    }
+
+    /// Makes a change, and counts the command.
+    fn change(&mut self, change: Change) -> Result<(), NoMemory>
+        requires { CanChange change self.old }
+        ensures ok { OnOk result (self.new ≡ counted (changed change self.old)) }
         ensures err { OnErr result (self.new ≡ self.old) }
     {
-        let name = name.copied()?;
-        self.types.insert(name, map)?;
+        match change {
+            Change::Nothing => {}
+            Change::AddType { name, kept } => self.types.add(name, kept)?,
+            Change::Commit { name } => self.types.commit(&name),
+            Change::Free { name } => self.types.free(&name),
+            Change::AddBuffer { name, buffer } => {
+                self.buffers.insert(name, buffer)?;
+            }
+        }
+        self.totals.commands = self.totals.commands.saturating_add(1);
         Ok(())
     }
 
-    /// Remembers one more buffer.
-    fn add_buffer(&mut self, name: &Name, buffer: Buffer) -> Result<(), NoMemory>
-        ensures ok { OnOk result (self.new ≡ with_buffer self.old name.now buffer) }
-        ensures err { OnErr result (self.new ≡ self.old) }
+    /// Replies to a command that is allowed, and makes its change. All memory is taken before anything changes.
+    fn perform(&mut self, outcome: Outcome, out: &mut Vec<u8>) -> Result<bool, NoMemory>
+        requires { CanChange outcome.change self.old }
+        ensures ok { IfOk result (λ accepted. (accepted ≡ true) × (self.new ≡ counted (changed outcome.change self.old)) × (out.new.items ≡ out.old.items ++ outcome.line.items)) }
+        ensures err { OnErr result ((self.new ≡ self.old) × (out.new.items ≡ out.old.items)) }
     {
-        let name = name.copied()?;
-        self.buffers.insert(name, buffer)?;
-        Ok(())
+        let Outcome { line, change } = outcome;
+        out.reserve(line.len())?;
+        self.change(change)?;
+        out.extend_from_slice(&line).unwrap();
+        Ok(true)
     }
 
     /// Replies a refusal.
@@ -147,122 +258,42 @@ impl Machine {
         Ok(false)
     }
 
-    /// `type NAME = hvector COUNT BLOCK STRIDE MPI_INT`
-    fn define_hvector(
-        &mut self,
-        name: &Name,
-        count: i32,
-        block: i32,
-        stride: i64,
-        out: &mut Vec<u8>,
-    ) -> Result<bool, NoMemory>
-        requires count { IsCount count }
-        requires block { IsCount block }
-        requires stride { IsStride stride }
-        ensures ok { IfOk result (λ accepted. Responds
-            (λ reply. Obeys (Define name.now (Hvector count block stride (codes "MPI_INT"))) self.old reply self.new)
-            accepted out.old.items out.new.items) }
-        ensures err { OnErr result ((self.new ≡ self.old) × (out.new.items ≡ out.old.items)) }
-    {
-        if self.is_type_taken(name) {
-            return self.refuse(Refusal::NameTaken, out);
-        }
-        let map = hvector_of_ints(
-            self.alloc,
-            count.unsigned_abs(),
-            block.unsigned_abs(),
-            stride,
-        )?;
-        out.reserve(OK.len())?;
-        self.add_type(name, map)?;
-        out.extend_from_slice(&OK).unwrap();
-        Ok(true)
-    }
-
-    /// `type NAME = CTOR`
-    fn define(&mut self, name: &Name, ctor: &Ctor, out: &mut Vec<u8>) -> Result<bool, NoMemory>
-        requires { IsWritten (Define name.now ctor.now) }
-        ensures ok { IfOk result (λ accepted. Responds
-            (λ reply. Obeys (Define name.now ctor.now) self.old reply self.new) accepted out.old.items out.new.items) }
-        ensures err { OnErr result ((self.new ≡ self.old) × (out.new.items ≡ out.old.items)) }
-    {
-        let Ctor::Hvector {
-            count,
-            block,
-            stride,
-            old: _,
-        } = ctor;
-        self.define_hvector(name, *count, *block, *stride, out)
-    }
-
-    /// `buffer NAME count LENGTH`
-    fn make_buffer(&mut self, name: &Name, len: i32, out: &mut Vec<u8>) -> Result<bool, NoMemory>
-        ensures ok { IfOk result (λ accepted. Responds
-            (λ reply. Obeys (BufferCommand name.now (Count len)) self.old reply self.new) accepted out.old.items out.new.items) }
-        ensures err { OnErr result ((self.new ≡ self.old) × (out.new.items ≡ out.old.items)) }
-    {
-        if self.is_buffer_taken(name) {
-            return self.refuse(Refusal::NameTaken, out);
-        }
-        let buffer = Buffer::counting(self.alloc, len.unsigned_abs())?;
-        out.reserve(OK.len())?;
-        self.add_buffer(name, buffer)?;
-        out.extend_from_slice(&OK).unwrap();
-        Ok(true)
-    }
-
-    /// `bytes native COUNT TYPE BUFFER ORIGIN`
-    fn reply_bytes(
-        &self,
-        count: i32,
-        ty: &Name,
-        buffer: &Name,
-        origin: i64,
-        out: &mut Vec<u8>,
-    ) -> Result<bool, NoMemory>
-        ensures ok { IfOk result (λ accepted. Responds
-            (λ reply. Obeys (Bytes Native count ty.now buffer.now origin) self.now reply self.now) accepted out.old.items out.new.items) }
-        ensures err { OnErr result (out.new.items ≡ out.old.items) }
-    {
-        let (Some(layout), Some(bytes)) = (self.layout(ty), self.buffer(buffer)) else {
-            return self.refuse(Refusal::UnknownName, out);
-        };
-        let count = count.unsigned_abs();
-        let Some(packed) = pack(
-            self.alloc,
-            layout.entries,
-            layout.extent,
-            count,
-            origin,
-            bytes,
-        )?
-        else {
-            return self.refuse(Refusal::Outside, out);
-        };
-        let line = packed_line(self.alloc, &packed)?;
-        out.extend_from_slice(&line)?;
-        Ok(true)
-    }
-
-    /// Obeys a command that a line gave, and appends one reply line.
-    fn step(&mut self, command: &Command, out: &mut Vec<u8>) -> Result<bool, NoMemory>
-        requires { IsWritten command.now }
-        ensures ok { IfOk result (λ accepted. Responds
-            (λ reply. Obeys command.now self.old reply self.new) accepted out.old.items out.new.items) }
-        ensures err { OnErr result ((self.new ≡ self.old) × (out.new.items ≡ out.old.items)) }
+    /// What a command comes to.
+    fn outcome(&self, command: &Command) -> Result<Outcome, Stop>
+        ensures { ComesTo self.now command.now result }
     {
         match command {
-            Command::Define { name, ctor } => self.define(name, ctor, out),
-            Command::Buffer { name, fill } => match fill {
-                Fill::Count(len) => self.make_buffer(name, *len, out),
-            },
+            Command::Define { name, ctor } => self.define(name, ctor),
+            Command::Child { name, ty, k } => self.child(name, ty, *k),
+            Command::Commit { ty } => self.commit(ty),
+            Command::Free { ty } => self.free(ty),
+            Command::Info { ty } => self.info(ty),
+            Command::Map { ty } => self.map(ty),
+            Command::Envelope { ty } => self.envelope(ty),
+            Command::Contents { ty } => self.contents(ty),
+            Command::Buffer { name, fill } => self.fill(name, fill),
+            Command::Show { buffer } => self.show(buffer),
             Command::Bytes {
-                rep: _,
+                rep,
                 count,
                 ty,
                 buffer,
                 origin,
-            } => self.reply_bytes(*count, ty, buffer, *origin, out),
+            } => self.bytes(*rep, *count, ty, buffer, *origin),
+        }
+    }
+
+    /// Obeys a command: one reply line is appended. It answers whether the reply is no refusal. A refused command leaves the
+    /// machine as it was. Where memory runs out the machine and `out` are as before.
+    pub fn step(&mut self, command: &Command, out: &mut Vec<u8>) -> Result<bool, NoMemory>
+        ensures ok { IfOk result (λ accepted. Responds
+            (λ reply. Obeys command.now self.old reply self.new) accepted out.old.items out.new.items) }
+        ensures err { OnErr result ((self.new ≡ self.old) × (out.new.items ≡ out.old.items)) }
+    {
+        match self.outcome(command) {
+            Ok(outcome) => self.perform(outcome, out),
+            Err(Stop::Refused(refusal)) => self.refuse(refusal, out),
+            Err(Stop::NoMemory) => Err(NoMemory),
         }
     }
 
@@ -272,10 +303,11 @@ impl Machine {
         ensures step { IfOk result (λ accepted. Responds (λ reply. Step self.old line.now reply self.new) accepted out.old.items out.new.items) }
         ensures err { OnErr result ((self.new ≡ self.old) × (out.new.items ≡ out.old.items)) }
     {
-        match parse_line(line) {
+        match parse_line(self.alloc, line) {
             Ok(None) => Ok(true),
             Ok(Some(command)) => self.step(&command, out),
             Err(LineFault::Syntax) => self.refuse(Refusal::Syntax, out),
+            Err(LineFault::NoMemory) => Err(NoMemory),
         }
     }
 }

@@ -1,4 +1,8 @@
+pub mod ArrayLemmas
+pub mod BlockLemmas
+pub mod CommandLemmas
+pub mod CtorLemmas
+pub mod CutLemmas
 pub mod LineLemmas
-pub mod NumberLemmas
 pub mod ReadingLemmas
 pub mod WordLemmas

@@ -4,10 +4,11 @@ use Rattle.dt_script.specs.declared.command.Command.{Command}
 use Rattle.dt_script.specs.Words.{words_of}
 use Rattle.dt_script.specs.Command.{IsCommand}
 use Rattle.dt_script.specs.declared.line.LineFault.{LineFault}
-use Rattle.dt_script.specs.declared.line.LineFault.TheVariants.{Syntax}
-use Rattle.dt_script.specs.Line.{Meaning, Blank, Fault, Does, IsLine, answered, is_passed_over}
-use Rattle.dt_script.specs.Reading.{Gives, command_of}
-use Rattle.dt_script.proofs.ReadingLemmas.{command_complete}
+use Rattle.dt_script.specs.declared.line.LineFault.TheVariants.{Syntax, NoMemory}
+use Rattle.dt_script.specs.Line.{Meaning, Blank, Fault, Does, IsLine, IsRead, is_passed_over, is_text}
+use Rattle.dt_script.specs.Reading.{Gives}
+use Rattle.dt_script.specs.Forms.{command_of}
+use Rattle.dt_script.proofs.CommandLemmas.{command_complete}
 
 apart : (b : _) → b ≡ true → b ≡ false → ⊥
 apart b t f = let e : true ≡ false = sym t ∙ f in cc
@@ -32,6 +33,7 @@ one_meaning line (Does c) Fault p q = absurd (q.1 p.1 c p.2)
 one_meaning line (Does c) (Does d) p q = ap Does (one_command (words_of line) c d p.2 q.2)
 
 -- where reading gives no command, the line is a fault
-pub fault_line : (line : List ℕ) (fault : LineFault) → is_passed_over (words_of line) ≡ false
-    → Gives {X = Command} (λ c. c) (Err fault) (command_of (words_of line)) → IsLine line (answered (Err fault))
-fault_line line Syntax p g = (p, λ _ c. no_command (words_of line) c g)
+pub fault_line : (line : List ℕ) (fault : LineFault) → is_passed_over (words_of line) ≡ false → is_text line ≡ true
+    → Gives {X = Command} (λ c. c) (Err fault) (command_of (words_of line)) → IsRead line (Err fault)
+fault_line line Syntax p t g = (p, λ _ c. no_command (words_of line) c (g refl))
+fault_line line NoMemory p t g = (p, t)

@@ -1,4 +1,7 @@
+pub mod Array
 pub mod Command
+pub mod Forms
+pub mod Hex
 pub mod Line
 pub mod Name
 pub mod Number

@@ -3,7 +3,7 @@ use Rattle.std.specs.Prelude.{ℕ, Bool, true, false, ◌&&◌, ◌||◌, ◌==�
 use Rattle.std.specs.List.{list_all}
 use Rattle.dt_script.specs.declared.command.Command.{Command}
 use Rattle.dt_script.specs.declared.line.LineFault.{LineFault}
-use Rattle.dt_script.specs.declared.line.LineFault.TheVariants.{Syntax}
+use Rattle.dt_script.specs.declared.line.LineFault.TheVariants.{Syntax, NoMemory}
 use Rattle.dt_script.specs.Words.{is_blank, words_of}
 use Rattle.dt_script.specs.Command.{IsCommand}
 
@@ -36,8 +36,9 @@ IsLine line (Does command) = IsFalse (is_passed_over (words_of line)) × IsTrue 
 IsLine line Fault =
     IsFalse (is_passed_over (words_of line)) × (IsTrue (is_text line) → (command : Command) → ¬ IsCommand (words_of line) command)
 
--- what reading a line answered
-abbrev pub answered : Result (Option Command) LineFault → Meaning
-answered (Ok None) = Blank
-answered (Ok (Some command)) = Does command
-answered (Err Syntax) = Fault
+-- What reading a line may answer: what the line means, or want of memory for a line that may be a command.
+abbrev pub IsRead : List ℕ → Result (Option Command) LineFault → Type 0
+IsRead line (Ok None) = IsLine line Blank
+IsRead line (Ok (Some command)) = IsLine line (Does command)
+IsRead line (Err Syntax) = IsLine line Fault
+IsRead line (Err NoMemory) = IsFalse (is_passed_over (words_of line)) × IsTrue (is_text line)

@@ -1,6 +1,5 @@
-use Rattle.std.specs.Prelude.{ℕ, Bool, false, ◌||◌, ◌&&◌, ◌==◌, nat_le, nat_eq, not, List, [], ◌∷◌, length, codes}
+use Rattle.std.specs.Prelude.{ℕ, Bool, false, ◌||◌, ◌&&◌, ◌==◌, nat_le, nat_eq, if◌then◌else◌, List, [], ◌∷◌, length, Option, Some, None, codes}
 use Rattle.std.specs.List.{list_all, starts_with}
-use Rattle.std.specs.Str.{bytes_eq}
 
 abbrev pub is_letter : ℕ → Bool
 is_letter b = (nat_le 65 b && nat_le b 90) || (nat_le 97 b && nat_le b 122)
@@ -23,6 +22,6 @@ is_name word = begins_with_letter word && list_all is_name_byte word && nat_le (
 abbrev pub begins_with_mpi : List ℕ → Bool
 begins_with_mpi word = starts_with nat_eq word (codes "MPI_")
 
--- a name that may stand for a type: one that doesn't begin with `MPI_`, or `MPI_INT`
-abbrev pub is_type_word : List ℕ → Bool
-is_type_word word = is_name word && (not (begins_with_mpi word) || bytes_eq word (codes "MPI_INT"))
+-- what a word names, where it is a name
+abbrev pub name_of : List ℕ → Option (List ℕ)
+name_of word = if is_name word then Some word else None

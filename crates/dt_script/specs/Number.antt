@@ -1,4 +1,4 @@
-use Rattle.std.specs.Prelude.{ℕ, ◌+◌, ◌-◌, ◌*◌, ℤ, pos, neg_ℤ, int_le, Bool, ◌&&◌, ◌==◌, not, if◌then◌else◌, List, [], ◌∷◌, Option, Some, None, fold}
+use Rattle.std.specs.Prelude.{ℕ, ◌+◌, ◌-◌, ◌*◌, ℤ, pos, negsuc, neg_ℤ, int_le, ◌&&◌, ◌==◌, not, if◌then◌else◌, List, [], ◌∷◌, Option, Some, None, fold}
 use Rattle.std.specs.List.{list_all}
 use Rattle.std.specs.Option.{option_map, option_and_then}
 use Rattle.dt_script.specs.Name.{is_digit}
@@ -19,12 +19,17 @@ integer_of (b ∷ bytes) =
     if b == 45 then option_map (λ n. neg_ℤ (pos n)) (natural_of bytes) else option_map pos (natural_of (b ∷ bytes))
 
 -- a number between two bounds
-abbrev pub in_range : ℤ → ℤ → ℤ → Bool
-in_range low high x = int_le low x && int_le x high
-
 abbrev pub bounded : ℤ → ℤ → ℤ → Option ℤ
-bounded low high x = if in_range low high x then Some x else None
+bounded low high x = if int_le low x && int_le x high then Some x else None
 
 -- what a word spells, where it lies in a range
 abbrev pub integer_within : ℤ → ℤ → List ℕ → Option ℤ
 integer_within low high word = option_and_then (bounded low high) (integer_of word)
+
+-- from -2,147,483,648 to 2,147,483,647
+unfoldable pub int_of : List ℕ → Option ℤ
+int_of word = integer_within (negsuc 2147483647) (pos 2147483647) word
+
+-- from -9,223,372,036,854,775,808 to 9,223,372,036,854,775,807
+unfoldable pub address_of : List ℕ → Option ℤ
+address_of word = integer_within (negsuc 9223372036854775807) (pos 9223372036854775807) word

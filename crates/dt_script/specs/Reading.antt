@@ -1,27 +1,27 @@
 -- Words read from left to right: what stands at the front of some words, and the words behind it.
-use Rattle.std.specs.Prelude.{◌≡◌, ℕ, ℤ, pos, negsuc, if◌then◌else◌, List, [], ◌∷◌, Option, Some, None, Result, Ok, Err, codes}
+use Rattle.std.specs.Prelude.{◌≡◌, ℕ, ◌==◌, if◌then◌else◌, List, [], ◌∷◌, Option, Some, None, Result, Ok, Err}
 use Rattle.std.specs.Str.{bytes_eq}
-use Rattle.dt_kinds.specs.declared.kind.Rep.TheVariants.{Native}
-use Rattle.dt_script.specs.declared.command.Command.{Command}
-use Rattle.dt_script.specs.declared.command.Command.TheVariants.{Define, Buffer, Bytes}
-use Rattle.dt_script.specs.declared.command.Ctor.{Ctor}
-use Rattle.dt_script.specs.declared.command.Ctor.TheVariants.{Hvector}
-use Rattle.dt_script.specs.declared.command.Fill.{Fill}
-use Rattle.dt_script.specs.declared.command.Fill.TheVariants.{Count}
+use Rattle.dt_type.specs.declared.form.IntBlock.{IntBlock}
+use Rattle.dt_type.specs.declared.form.AddrBlock.{AddrBlock}
+use Rattle.dt_type.specs.declared.form.DistDim.{DistDim}
+use Rattle.dt_type.specs.declared.form.SubDim.{SubDim}
+use Rattle.dt_script.specs.Array.{dist_of, darg_of}
+use Rattle.dt_script.specs.declared.command.NamedPart.{NamedPart}
 use Rattle.dt_script.specs.declared.line.LineFault.{LineFault}
 use Rattle.dt_script.specs.declared.line.LineFault.TheVariants.{Syntax}
-use Rattle.dt_script.specs.Name.{is_name, is_type_word}
-use Rattle.dt_script.specs.Number.{integer_within}
+use Rattle.dt_script.specs.Name.{name_of}
+use Rattle.dt_script.specs.Number.{int_of, address_of}
 
 infixl 10 ◌>>=◌
 abbrev pub ◌>>=◌ : {A B : Type 0} → Option A → (A → Option B) → Option B
 None >>= f = None
 (Some x) >>= f = f x
 
--- what a function returned, seen by view, is what reading gives
+-- What a function returned, seen by view, is what reading gives, and a syntax fault where that is nothing. Want of memory tells
+-- nothing.
 abbrev pub Gives : {X Y : Type 0} → (X → Y) → Result X LineFault → Option Y → Type 0
 Gives view (Ok x) read = read ≡ Some (view x)
-Gives view (Err Syntax) read = read ≡ None
+Gives view (Err fault) read = fault ≡ Syntax → read ≡ None
 
 abbrev pub word_at : List (List ℕ) → Option (List ℕ × List (List ℕ))
 word_at [] = None
@@ -36,79 +36,75 @@ keyword_at keyword words = do
   word ← word_at words
   if bytes_eq word.0 keyword then Some word.1 else None
 
-unfoldable pub name_at : List (List ℕ) → Option (List ℕ × List (List ℕ))
-name_at words = do
+-- what the next word spells
+unfoldable pub item_at : {A : Type 0} → (List ℕ → Option A) → List (List ℕ) → Option (A × List (List ℕ))
+item_at read words = do
   word ← word_at words
-  if is_name word.0 then Some word else None
+  item ← read word.0
+  Some (item, word.1)
 
-unfoldable pub type_at : List (List ℕ) → Option (List ℕ × List (List ℕ))
-type_at words = do
-  word ← word_at words
-  if is_type_word word.0 then Some word else None
+-- what all the words spell
+abbrev pub items_at : {A : Type 0} → (List ℕ → Option A) → List (List ℕ) → Option (List A)
+items_at read [] = Some []
+items_at read (word ∷ words) = do
+  item ← read word
+  items ← items_at read words
+  Some (item ∷ items)
 
-unfoldable pub int_at : List (List ℕ) → Option (List ℕ × List (List ℕ))
-int_at words = do
-  rest ← keyword_at (codes "MPI_INT") words
-  Some (codes "MPI_INT", rest)
+-- the bytes of a word before the first mark, and those behind it
+abbrev pub cut_of : ℕ → List ℕ → Option (List ℕ × List ℕ)
+cut_of mark [] = None
+cut_of mark (b ∷ bytes) = if b == mark then Some ([], bytes) else do
+  cut ← cut_of mark bytes
+  Some (b ∷ cut.0, cut.1)
 
-unfoldable pub integer_at : ℤ → ℤ → List (List ℕ) → Option (ℤ × List (List ℕ))
-integer_at low high words = do
-  word ← word_at words
-  x ← integer_within low high word.0
-  Some (x, word.1)
+-- cut at the first `@`
+abbrev pub at_sign_cut : List ℕ → Option (List ℕ × List ℕ)
+at_sign_cut word = cut_of 64 word
 
-unfoldable pub hvector_of : List (List ℕ) → Option Ctor
-hvector_of words = do
-  count ← integer_at (pos 0) (pos 64) words
-  block ← integer_at (pos 0) (pos 64) count.1
-  stride ← integer_at (negsuc 999999) (pos 1000000) block.1
-  old ← int_at stride.1
-  end ← end_at old.1
-  Some (Hvector count.0 block.0 stride.0 old.0)
+-- cut at the first `:`
+abbrev pub colon_cut : List ℕ → Option (List ℕ × List ℕ)
+colon_cut word = cut_of 58 word
 
-unfoldable pub ctor_of : List (List ℕ) → Option Ctor
-ctor_of words = do
-  word ← word_at words
-  if bytes_eq word.0 (codes "hvector") then hvector_of word.1 else None
+unfoldable pub int_block_of : List ℕ → Option IntBlock
+int_block_of word = do
+  cut ← at_sign_cut word
+  len ← int_of cut.0
+  disp ← int_of cut.1
+  Some (record { len = len; disp = disp })
 
-unfoldable pub define_of : List (List ℕ) → Option Command
-define_of words = do
-  name ← name_at words
-  rest ← keyword_at (codes "=") name.1
-  ctor ← ctor_of rest
-  Some (Define name.0 ctor)
+unfoldable pub address_block_of : List ℕ → Option AddrBlock
+address_block_of word = do
+  cut ← at_sign_cut word
+  len ← int_of cut.0
+  disp ← address_of cut.1
+  Some (record { len = len; disp = disp })
 
-unfoldable pub count_of : List (List ℕ) → Option Fill
-count_of words = do
-  len ← integer_at (pos 0) (pos 65536) words
-  end ← end_at len.1
-  Some (Count len.0)
+unfoldable pub part_of : List ℕ → Option NamedPart
+part_of word = do
+  cut ← at_sign_cut word
+  len ← int_of cut.0
+  pieces ← at_sign_cut cut.1
+  disp ← address_of pieces.0
+  old ← name_of pieces.1
+  Some (record { len = len; disp = disp; old = old })
 
-unfoldable pub fill_of : List (List ℕ) → Option Fill
-fill_of words = do
-  word ← word_at words
-  if bytes_eq word.0 (codes "count") then count_of word.1 else None
+unfoldable pub sub_dim_of : List ℕ → Option SubDim
+sub_dim_of word = do
+  cut ← colon_cut word
+  size ← int_of cut.0
+  pieces ← colon_cut cut.1
+  sub ← int_of pieces.0
+  start ← int_of pieces.1
+  Some (record { size = size; sub = sub; start = start })
 
-unfoldable pub buffer_of : List (List ℕ) → Option Command
-buffer_of words = do
-  name ← name_at words
-  fill ← fill_of name.1
-  Some (Buffer name.0 fill)
-
-unfoldable pub bytes_of : List (List ℕ) → Option Command
-bytes_of words = do
-  rest ← keyword_at (codes "native") words
-  count ← integer_at (pos 0) (pos 64) rest
-  ty ← type_at count.1
-  buffer ← name_at ty.1
-  origin ← integer_at (negsuc 9223372036854775807) (pos 9223372036854775807) buffer.1
-  end ← end_at origin.1
-  Some (Bytes Native count.0 ty.0 buffer.0 origin.0)
-
-unfoldable pub command_of : List (List ℕ) → Option Command
-command_of words = do
-  word ← word_at words
-  if bytes_eq word.0 (codes "type") then define_of word.1
-      else if bytes_eq word.0 (codes "buffer") then buffer_of word.1
-      else if bytes_eq word.0 (codes "bytes") then bytes_of word.1
-      else None
+unfoldable pub dist_dim_of : List ℕ → Option DistDim
+dist_dim_of word = do
+  cut ← colon_cut word
+  gsize ← int_of cut.0
+  pieces ← colon_cut cut.1
+  dist ← dist_of pieces.0
+  last ← colon_cut pieces.1
+  darg ← darg_of last.0
+  psize ← int_of last.1
+  Some (record { gsize = gsize; dist = dist; darg = darg; psize = psize })

@@ -1,5 +1,8 @@
+use crate::bytes::Bytes;
 use crate::name::Name;
 use dt_kinds::Rep;
+use dt_type::{AddrBlock, DistDim, IntBlock, Order, SubDim};
+use sqlite_items::Items;
 
 /// One line of a script that is neither blank nor a comment. The fields hold the words of the line in their order.
 #[derive(Drop)]
@@ -9,10 +12,44 @@ pub enum Command {
         name: Name,
         ctor: Ctor,
     },
+    /// `child NAME = TYPE NUMBER`
+    Child {
+        name: Name,
+        ty: Name,
+        k: i32,
+    },
+    /// `commit TYPE`
+    Commit {
+        ty: Name,
+    },
+    /// `free TYPE`
+    Free {
+        ty: Name,
+    },
+    /// `info TYPE`
+    Info {
+        ty: Name,
+    },
+    /// `map TYPE`
+    Map {
+        ty: Name,
+    },
+    /// `envelope TYPE`
+    Envelope {
+        ty: Name,
+    },
+    /// `contents TYPE`
+    Contents {
+        ty: Name,
+    },
     /// `buffer NAME FILL`
     Buffer {
         name: Name,
         fill: Fill,
+    },
+    /// `show BUFFER`
+    Show {
+        buffer: Name,
     },
     /// `bytes REP COUNT TYPE BUFFER ORIGIN`
     Bytes {
@@ -24,21 +61,97 @@ pub enum Command {
     },
 }
 
-/// What makes a type.
+/// What makes a type, with old types by their names. Lengths of blocks count copies; a stride or a displacement counts extents of
+/// the old type where it is an `i32`, and bytes where it is an `i64` (MPI 4.1, sections 5.1.2 and 5.1.7). The numbers of an array
+/// count indices (MPI 4.1, sections 5.1.3 and 5.1.4).
 #[derive(Drop)]
 pub enum Ctor {
-    /// `hvector COUNT BLOCK STRIDE TYPE`, the stride in bytes (MPI 4.1, section 5.1.2)
+    /// `contiguous COUNT TYPE`
+    Contiguous {
+        count: i32,
+        old: Name,
+    },
+    /// `vector COUNT BLOCK STRIDE TYPE`
+    Vector {
+        count: i32,
+        block: i32,
+        stride: i32,
+        old: Name,
+    },
+    /// `hvector COUNT BLOCK STRIDE TYPE`
     Hvector {
         count: i32,
         block: i32,
         stride: i64,
         old: Name,
     },
+    /// `indexed TYPE` and the blocks, each `LENGTH@DISPLACEMENT`
+    Indexed {
+        old: Name,
+        blocks: Items<IntBlock>,
+    },
+    /// `hindexed TYPE` and the blocks, each `LENGTH@DISPLACEMENT`
+    Hindexed {
+        old: Name,
+        blocks: Items<AddrBlock>,
+    },
+    /// `indexed_block TYPE BLOCK` and the displacements
+    IndexedBlock {
+        old: Name,
+        block: i32,
+        disps: Items<i32>,
+    },
+    /// `hindexed_block TYPE BLOCK` and the displacements
+    HindexedBlock {
+        old: Name,
+        block: i32,
+        disps: Items<i64>,
+    },
+    /// `struct` and the parts, each `LENGTH@DISPLACEMENT@TYPE`
+    Struct {
+        parts: Items<NamedPart>,
+    },
+    /// `resized LB EXTENT TYPE`
+    Resized {
+        lb: i64,
+        extent: i64,
+        old: Name,
+    },
+    /// `dup TYPE`
+    Dup {
+        old: Name,
+    },
+    /// `subarray ORDER TYPE` and the dimensions, each `SIZE:SUBSIZE:START`
+    Subarray {
+        order: Order,
+        old: Name,
+        dims: Items<SubDim>,
+    },
+    /// `darray SIZE RANK ORDER TYPE` and the dimensions, each `GSIZE:DIST:DARG:PSIZE`
+    Darray {
+        size: i32,
+        rank: i32,
+        order: Order,
+        old: Name,
+        dims: Items<DistDim>,
+    },
+}
+
+/// A part of a struct: so many copies of an old type, from `disp` bytes on.
+#[derive(Drop)]
+pub struct NamedPart {
+    pub len: i32,
+    pub disp: i64,
+    pub old: Name,
 }
 
 /// What a new buffer holds.
 #[derive(Drop)]
 pub enum Fill {
+    /// `zero LENGTH`: that many zero bytes
+    Zero(i32),
     /// `count LENGTH`: byte i is `i mod 256`
     Count(i32),
+    /// `hex HEX`: these bytes
+    Hex(Bytes),
 }

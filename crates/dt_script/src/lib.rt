@@ -1,8 +1,12 @@
 //! The lines of the script language, read exactly.
 #![tactic(auto)]
 
+mod array;
+mod bytes;
 pub mod command;
+mod ctors;
 mod forms;
+mod item;
 pub mod laws;
 pub mod line;
 pub mod name;
@@ -10,6 +14,7 @@ mod number;
 mod reading;
 mod words;
 
-pub use command::{Command, Ctor, Fill};
+pub use bytes::Bytes;
+pub use command::{Command, Ctor, Fill, NamedPart};
 pub use line::{LineFault, parse_line};
 pub use name::Name;

@@ -1,11 +1,12 @@
 ghost use Rattle.std.specs.Prelude.{◌≡◌};
 ghost use Rattle.std.specs.List.{list_all};
 ghost use Rattle.dt_script.specs.Words.{words_of};
-ghost use Rattle.dt_script.specs.Line.{IsLine, answered, begins_with_hash, is_passed_over, is_text, is_text_byte};
+ghost use Rattle.dt_script.specs.Line.{IsRead, begins_with_hash, is_passed_over, is_text, is_text_byte};
 
 use crate::command::Command;
 use crate::forms::command;
 use crate::words::{is_blank, next_word};
+use std::alloc::Global;
 use thiserror::Error;
 
 /// Why a line gives no command.
@@ -13,13 +14,15 @@ use thiserror::Error;
 pub enum LineFault {
     #[error("the line is in no line form")]
     Syntax,
+    #[error("memory ran out")]
+    NoMemory,
 }
 
 /// Whether a byte may stand in a line that is no comment.
 fn is_text_byte(b: u8) -> bool
     ensures { result ≡ is_text_byte b }
 {
-    is_blank(b) || (33..=126).contains(&b)
+    is_blank(b) || (b'!'..=b'~').contains(&b)
 }
 
 fn is_text(line: &[u8]) -> bool
@@ -32,7 +35,7 @@ fn begins_with_hash(word: &[u8]) -> bool
     ensures { result ≡ begins_with_hash word.now }
 {
     match word {
-        [b, ..] => *b == 35,
+        [b, ..] => *b == b'#',
         [] => false,
     }
 }
@@ -48,9 +51,9 @@ fn is_passed_over(line: &[u8]) -> bool
 }
 
 /// The command of a line, without its end: None for a blank or comment line, and a syntax fault for every other line
-/// that is in no line form. A line means one thing alone (`laws::one_meaning`).
-pub fn parse_line(line: &[u8]) -> Result<Option<Command>, LineFault>
-    ensures { IsLine line.now (answered result) }
+/// that is in no line form. A line means one thing alone (`laws::one_meaning`). Memory is taken for lists and bytes alone.
+pub fn parse_line(alloc: Global, line: &[u8]) -> Result<Option<Command>, LineFault>
+    ensures { IsRead line.now result }
 {
     if is_passed_over(line) {
         return Ok(None);
@@ -58,7 +61,7 @@ pub fn parse_line(line: &[u8]) -> Result<Option<Command>, LineFault>
     if !is_text(line) {
         return Err(LineFault::Syntax);
     }
-    match command(line) {
+    match command(alloc, line) {
         Ok(command) => Ok(Some(command)),
         Err(fault) => Err(fault),
     }

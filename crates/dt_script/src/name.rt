@@ -1,6 +1,6 @@
-ghost use Rattle.std.specs.Prelude.{◌≡◌, IsTrue, IfOk, if◌then◌else◌};
+ghost use Rattle.std.specs.Prelude.{◌≡◌, IsTrue, IfOk};
 ghost use Rattle.std.specs.List.{list_all};
-ghost use Rattle.dt_script.specs.Name.{is_letter, begins_with_letter, is_name_byte, is_name, is_type_word, begins_with_mpi};
+ghost use Rattle.dt_script.specs.Name.{is_letter, begins_with_letter, is_name_byte, is_name, name_of, begins_with_mpi};
 
 use crate::number::is_digit;
 use arrayvec::ArrayVec;
@@ -30,14 +30,14 @@ impl Model for Name {
 fn is_letter(b: u8) -> bool
     ensures { result ≡ is_letter b }
 {
-    (65..=90).contains(&b) || (97..=122).contains(&b)
+    (b'A'..=b'Z').contains(&b) || (b'a'..=b'z').contains(&b)
 }
 
 /// Whether a byte is a letter, a digit or `_`.
 fn is_name_byte(b: u8) -> bool
     ensures { result ≡ is_name_byte b }
 {
-    is_letter(b) || is_digit(b) || b == 95
+    is_letter(b) || is_digit(b) || b == b'_'
 }
 
 fn begins_with_letter(word: &[u8]) -> bool
@@ -61,17 +61,10 @@ fn is_name(word: &[u8]) -> bool
     begins_with_letter(word) && are_name_bytes(word) && word.len() <= 32
 }
 
-/// Whether a word may name a type: a name that doesn't begin as those of MPI do, or `MPI_INT`.
-pub(crate) fn is_type_word(word: &[u8]) -> bool
-    ensures { result ≡ is_type_word word.now }
-{
-    is_name(word) && (!word.starts_with(b"MPI_") || word == b"MPI_INT".as_slice())
-}
-
 impl Name {
     /// The name that a word spells, or None where it is no name.
     pub fn new(word: &[u8]) -> Option<Name>
-        ensures { result ≡ (if is_name word.now then Some word.now else None) }
+        ensures { result ≡ name_of word.now }
     {
         if !is_name(word) {
             return None;

@@ -1,15 +1,22 @@
 //! Readers of the words at the front of a line. Each answers what it read and the bytes behind it.
-ghost use Rattle.std.specs.Prelude.{◌≡◌, ℕ, List, IfOk, FitsSigned};
+ghost use Rattle.std.specs.Prelude.{◌≡◌, ℕ, List};
 ghost use Rattle.std.specs.Borrow.{Bor};
-ghost use Rattle.std.specs.Int.{w32, w64};
 ghost use Rattle.dt_script.specs.Words.{words_of};
-ghost use Rattle.dt_script.specs.Reading.{Gives, word_at, end_at, keyword_at, name_at, type_at, int_at, integer_at};
+ghost use Rattle.dt_script.specs.Array.{order_of};
+ghost use Rattle.dt_script.specs.Hex.{hex_of};
+ghost use Rattle.dt_script.specs.Name.{name_of};
+ghost use Rattle.dt_script.specs.Number.{int_of, address_of};
+ghost use Rattle.dt_script.specs.Reading.{Gives, word_at, end_at, keyword_at, item_at, items_at};
 
+use crate::bytes::Bytes;
+use crate::item::Item;
 use crate::line::LineFault;
-use crate::name::{Name, is_type_word};
-use crate::number::{address, int};
+use crate::name::Name;
 use crate::words::next_word;
-use std::str;
+use crate::{array, number};
+use dt_type::Order;
+use sqlite_items::Items;
+use std::alloc::Global;
 
 /// The next word.
 pub(crate) fn word(line: &[u8]) -> Result<(&[u8], &[u8]), LineFault>
@@ -45,9 +52,9 @@ pub(crate) fn keyword<'a>(keyword: &[u8], line: &'a [u8]) -> Result<&'a [u8], Li
 }
 
 /// A name.
-#[tactic(auto, unfolding(crate::specs::Reading::name_at))]
+#[tactic(auto, unfolding(crate::specs::Reading::item_at))]
 pub(crate) fn name(line: &[u8]) -> Result<(Name, &[u8]), LineFault>
-    ensures { Gives (λ x. (x.0, words_of x.1.now)) result (name_at (words_of line.now)) }
+    ensures { Gives (λ x. (x.0, words_of x.1.now)) result (item_at name_of (words_of line.now)) }
 {
     let (found, rest) = word(line)?;
     match Name::new(found) {
@@ -56,55 +63,66 @@ pub(crate) fn name(line: &[u8]) -> Result<(Name, &[u8]), LineFault>
     }
 }
 
-/// An integer between two bounds.
-#[tactic(auto, unfolding(crate::specs::Reading::integer_at))]
-pub(crate) fn int_between(low: i32, high: i32, line: &[u8]) -> Result<(i32, &[u8]), LineFault>
-    ensures value { Gives (λ x. (x.0, words_of x.1.now)) result (integer_at low high (words_of line.now)) }
-    ensures fits { IfOk result (λ x. FitsSigned w32 x.0) }
+/// A number that an `i32` holds.
+#[tactic(auto, unfolding(crate::specs::Reading::item_at))]
+pub(crate) fn int(line: &[u8]) -> Result<(i32, &[u8]), LineFault>
+    ensures { Gives (λ x. (x.0, words_of x.1.now)) result (item_at int_of (words_of line.now)) }
 {
     let (found, rest) = word(line)?;
-    match int(found, low, high) {
+    match number::int(found) {
         Some(x) => Ok((x, rest)),
         None => Err(LineFault::Syntax),
     }
 }
 
-/// An address between two bounds.
-#[tactic(auto, unfolding(crate::specs::Reading::integer_at))]
-pub(crate) fn address_between(low: i64, high: i64, line: &[u8]) -> Result<(i64, &[u8]), LineFault>
-    ensures value { Gives (λ x. (x.0, words_of x.1.now)) result (integer_at low high (words_of line.now)) }
-    ensures fits { IfOk result (λ x. FitsSigned w64 x.0) }
+/// A number that an `i64` holds.
+#[tactic(auto, unfolding(crate::specs::Reading::item_at))]
+pub(crate) fn address(line: &[u8]) -> Result<(i64, &[u8]), LineFault>
+    ensures { Gives (λ x. (x.0, words_of x.1.now)) result (item_at address_of (words_of line.now)) }
 {
     let (found, rest) = word(line)?;
-    match address(found, low, high) {
+    match number::address(found) {
         Some(x) => Ok((x, rest)),
         None => Err(LineFault::Syntax),
     }
 }
 
-/// The name of a type: one that doesn't begin as those of MPI do, or `MPI_INT`.
-#[tactic(auto, unfolding(crate::specs::Reading::type_at))]
-pub(crate) fn type_name(line: &[u8]) -> Result<(Name, &[u8]), LineFault>
-    ensures { Gives (λ x. (x.0, words_of x.1.now)) result (type_at (words_of line.now)) }
+/// An order of indices.
+#[tactic(auto, unfolding(crate::specs::Reading::item_at))]
+pub(crate) fn order(line: &[u8]) -> Result<(Order, &[u8]), LineFault>
+    ensures { Gives (λ x. (x.0, words_of x.1.now)) result (item_at order_of (words_of line.now)) }
 {
     let (found, rest) = word(line)?;
-    if !is_type_word(found) {
-        return Err(LineFault::Syntax);
-    }
-    match Name::new(found) {
-        Some(name) => Ok((name, rest)),
+    match array::order(found) {
+        Some(order) => Ok((order, rest)),
         None => Err(LineFault::Syntax),
     }
 }
 
-/// The name `MPI_INT`.
-#[tactic(auto, unfolding(crate::specs::Reading::int_at))]
-pub(crate) fn int_name(line: &[u8]) -> Result<(Name, &[u8]), LineFault>
-    ensures { Gives (λ x. (x.0, words_of x.1.now)) result (int_at (words_of line.now)) }
+/// Bytes in hexadecimal.
+#[tactic(auto, unfolding(crate::specs::Reading::item_at))]
+pub(crate) fn hex(alloc: Global, line: &[u8]) -> Result<(Bytes, &[u8]), LineFault>
+    ensures { Gives (λ x. (x.0, words_of x.1.now)) result (item_at hex_of (words_of line.now)) }
 {
-    let rest = keyword(b"MPI_INT", line)?;
-    match Name::new(b"MPI_INT") {
-        Some(name) => Ok((name, rest)),
-        None => Err(LineFault::Syntax),
+    let (found, rest) = word(line)?;
+    let bytes = Bytes::of_word(alloc, found)?;
+    Ok((bytes, rest))
+}
+
+/// All the words that are left.
+pub(crate) fn items<T: Item + Drop>(alloc: Global, line: &[u8]) -> Result<Items<T>, LineFault>
+    ensures { Gives (λ x. x) result (items_at T.item_of (words_of line.now)) }
+{
+    let mut items = Items::new(alloc);
+    let mut rest = line;
+    'words: while let Some((word, after)) = next_word(rest) {
+        let Some(item) = T::of_word(word) else {
+            return Err(LineFault::Syntax);
+        };
+        let Ok(()) = items.push(item) else {
+            return Err(LineFault::NoMemory);
+        };
+        rest = after;
     }
+    Ok(items)
 }

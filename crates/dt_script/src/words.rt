@@ -6,7 +6,7 @@ ghost use Rattle.dt_script.specs.Words.{is_blank, begins_blank, words_of};
 pub(crate) fn is_blank(b: u8) -> bool
     ensures { result ≡ is_blank b }
 {
-    b == 32 || b == 9
+    b == b' ' || b == b'\t'
 }
 
 /// The line from its first byte on that is no blank.

@@ -1,48 +1,197 @@
-//! Whether the elements of an operation lie inside a buffer, their size, and their native bytes.
+//! Whether the elements of an operation lie inside a buffer, their size, and their packed bytes.
 
-use dt_ctor::hvector;
-use dt_elems::{native_bytes, packed_size, span_inside};
-use dt_kinds::{Kind, Rep};
+use crate::defined::made_by;
+use dt_elems::{packed_bytes, packed_size, span_inside};
+use dt_kinds::{Kind, NoMemory, Rep};
 use dt_type::Datatype;
 use std::alloc::Global;
 use std::test::Fail;
 
-/// The bytes of two integers 8 apart, the second copy of them one extent further, which is 12 bytes. No
-/// bytes where an element lies outside.
-fn packed_pairs(alloc: Global, count: u32, origin: i64, buffer: &[u8]) -> Result<Vec<u8>, Fail> {
-    let int = Datatype::named(alloc, Kind::Int)?;
-    let pairs = hvector(alloc, 2, 1, 8, &int)?;
-    if !span_inside(&pairs, count, origin, buffer.len()) {
-        return Ok(Vec::new(alloc));
+/// The packed bytes. None where an element lies outside.
+fn packed(
+    alloc: Global,
+    made: &Datatype,
+    rep: Rep,
+    count: u32,
+    origin: i64,
+    buffer: &[u8],
+) -> Result<Option<Vec<u8>>, NoMemory> {
+    if !span_inside(made, count, origin, buffer.len()) {
+        return Ok(None);
     }
-    Ok(native_bytes(alloc, &pairs, count, origin, buffer)?)
+    Ok(Some(packed_bytes(alloc, made, rep, count, origin, buffer)?))
 }
 
-const BUFFER: [u8; 25] = [
-    0, 1, 2, 3, 4, 5, 6, 7, 8, 9, 10, 11, 12, 13, 14, 15, 16, 17, 18, 19, 20, 21, 22, 23, 24,
+/// Byte i is i.
+const COUNTED: &[u8] =
+    b"\x00\x01\x02\x03\x04\x05\x06\x07\x08\x09\x0a\x0b\x0c\x0d\x0e\x0f\x10\x11\x12\x13\x14\x15\x16\x17\x18";
+
+/// The number 4,294,967,298 in eight bytes.
+const LONG: &[u8] = b"\x02\0\0\0\x01\0\0\0";
+
+/// A line that makes a type, a representation, a count, an origin and a buffer; and the packed bytes, none where an
+/// element lies outside.
+type Row = (
+    &'static str,
+    Rep,
+    u32,
+    i64,
+    &'static [u8],
+    Option<&'static [u8]>,
+);
+
+const ROWS: [Row; 14] = [
+    // Two ints 8 apart; the second copy of them is one extent further, which is 12 bytes.
+    (
+        "type v = hvector 2 1 8 MPI_INT",
+        Rep::Native,
+        1,
+        0,
+        COUNTED,
+        Some(b"\x00\x01\x02\x03\x08\x09\x0a\x0b"),
+    ),
+    (
+        "type v = hvector 2 1 8 MPI_INT",
+        Rep::Native,
+        2,
+        1,
+        COUNTED,
+        Some(b"\x01\x02\x03\x04\x09\x0a\x0b\x0c\x0d\x0e\x0f\x10\x15\x16\x17\x18"),
+    ),
+    (
+        "type v = hvector 2 1 8 MPI_INT",
+        Rep::External32,
+        1,
+        0,
+        COUNTED,
+        Some(b"\x03\x02\x01\x00\x0b\x0a\x09\x08"),
+    ),
+    (
+        "type v = hvector 2 1 8 MPI_INT",
+        Rep::Native,
+        2,
+        2,
+        COUNTED,
+        None,
+    ),
+    // Elements that go down, and elements that share their bytes.
+    (
+        "type w = hvector 2 1 -4 MPI_INT",
+        Rep::Native,
+        1,
+        4,
+        COUNTED,
+        Some(b"\x04\x05\x06\x07\x00\x01\x02\x03"),
+    ),
+    (
+        "type w = hvector 2 1 -4 MPI_INT",
+        Rep::External32,
+        1,
+        0,
+        COUNTED,
+        None,
+    ),
+    (
+        "type d = hvector 2 1 0 MPI_INT",
+        Rep::Native,
+        1,
+        0,
+        COUNTED,
+        Some(b"\x00\x01\x02\x03\x00\x01\x02\x03"),
+    ),
+    // A long keeps its 4 least significant bytes, and a long long all 8.
+    ("type l = dup MPI_LONG", Rep::Native, 1, 0, LONG, Some(LONG)),
+    (
+        "type l = dup MPI_LONG",
+        Rep::External32,
+        1,
+        0,
+        LONG,
+        Some(b"\x00\x00\x00\x02"),
+    ),
+    (
+        "type l = dup MPI_UNSIGNED_LONG",
+        Rep::External32,
+        1,
+        0,
+        LONG,
+        Some(b"\x00\x00\x00\x02"),
+    ),
+    (
+        "type l = dup MPI_LONG_LONG",
+        Rep::External32,
+        1,
+        0,
+        LONG,
+        Some(b"\x00\x00\x00\x01\x00\x00\x00\x02"),
+    ),
+    (
+        "type s = dup MPI_SHORT",
+        Rep::External32,
+        2,
+        3,
+        COUNTED,
+        Some(b"\x04\x03\x06\x05"),
+    ),
+    // No copies lie nowhere.
+    (
+        "type l = dup MPI_LONG",
+        Rep::External32,
+        0,
+        -1,
+        LONG,
+        Some(b""),
+    ),
+    (
+        "type l = dup MPI_LONG",
+        Rep::External32,
+        1,
+        -1,
+        COUNTED,
+        None,
+    ),
 ];
 
+/// Whether a row holds.
+fn holds(alloc: Global, row: &Row) -> Result<bool, Fail> {
+    let (line, rep, count, origin, buffer, wanted) = row;
+    let made = made_by(alloc, &[line])?;
+    let bytes = packed(alloc, &made, *rep, *count, *origin, buffer)?;
+    Ok(bytes.as_deref() == *wanted)
+}
+
+/// The number of the first row that doesn't hold.
+fn other_row(alloc: Global, rows: &[Row]) -> Result<Option<usize>, Fail> {
+    for (number, row) in rows.iter().enumerate() {
+        if !holds(alloc, row)? {
+            return Ok(Some(number));
+        }
+    }
+    Ok(None)
+}
+
 #[test]
-fn native_bytes_of_copies(rt: HostRuntime) -> Result<(), Fail> {
-    let alloc = rt.alloc();
-    let one = packed_pairs(alloc, 1, 0, &BUFFER)?;
-    assert_eq!(rt; one.as_slice(), [0, 1, 2, 3, 8, 9, 10, 11].as_slice());
-    let two = packed_pairs(alloc, 2, 1, &BUFFER)?;
-    assert_eq!(rt;
-        two.as_slice(),
-        [1, 2, 3, 4, 9, 10, 11, 12, 13, 14, 15, 16, 21, 22, 23, 24].as_slice()
-    );
+fn packed_rows(rt: HostRuntime) -> Result<(), Fail> {
+    let other = other_row(rt.alloc(), &ROWS)?;
+    assert!(rt; other.is_none(), "{other:?}");
     Ok(())
 }
 
 #[test]
 fn elements_inside(rt: HostRuntime) -> Result<(), Fail> {
     let long = Datatype::named(rt.alloc(), Kind::Long)?;
-    assert!(rt; span_inside(&long, 2, 1, 17));
-    assert!(rt; !span_inside(&long, 2, 1, 16));
-    assert!(rt; !span_inside(&long, 1, -1, 16));
-    assert!(rt; span_inside(&long, 0, -1, 0));
-    assert_eq!(rt; packed_size(&long, Rep::Native, 3), 24);
-    assert_eq!(rt; packed_size(&long, Rep::External32, 3), 12);
+    for (count, origin, len, inside) in [
+        (2, 1, 17, true),
+        (2, 1, 16, false),
+        (1, -1, 16, false),
+        (0, -1, 0, true),
+    ] {
+        assert!(rt;
+            span_inside(&long, count, origin, len) == inside,
+            "{count} {len}"
+        );
+    }
+    assert!(rt; packed_size(&long, Rep::Native, 3) == 24);
+    assert!(rt; packed_size(&long, Rep::External32, 3) == 12);
     Ok(())
 }

@@ -2,8 +2,11 @@
 
 use dt_kinds::{DISP_MAX, Kind, KindFault, fits_disp};
 
-/// The kinds in the order of their numbers: name, bytes in memory and in external32, and whether there is a sign.
-const TABLE: [(Kind, &str, u32, u32, bool); 23] = [
+/// A kind: its name, its bytes in memory and in external32, and whether there is a sign.
+pub(crate) type Row = (Kind, &'static str, u32, u32, bool);
+
+/// The kinds in the order of their numbers.
+pub(crate) const TABLE: [Row; 23] = [
     (Kind::Byte, "MPI_BYTE", 1, 1, false),
     (Kind::Char, "MPI_CHAR", 1, 1, true),
     (Kind::SignedChar, "MPI_SIGNED_CHAR", 1, 1, true),
@@ -86,36 +89,49 @@ const DISPLACEMENTS: [(i128, bool); 7] = [
     (i128::MIN, false),
 ];
 
-#[test]
-fn kinds_have_the_sizes_and_signs_of_the_table(rt: HostRuntime) {
-    for (kind, name, native, external, signed) in TABLE {
-        assert!(rt; kind.name().as_bytes() == name.as_bytes(), "{name}");
-        assert_eq!(rt; kind.size(), native, "{name}");
-        assert_eq!(rt; kind.ext_size(), external, "{name}");
-        assert_eq!(rt; kind.signed(), signed, "{name}");
+/// Whether a kind has a name, sizes and a sign.
+fn is_row(kind: Kind, name: &str, native: u32, external: u32, signed: bool) -> bool {
+    kind.name().as_bytes() == name.as_bytes()
+        && kind.size() == native
+        && kind.ext_size() == external
+        && kind.signed() == signed
+}
+
+/// The first row that doesn't hold.
+fn other_row(rows: &[Row]) -> Option<&'static str> {
+    for (kind, name, native, external, signed) in rows {
+        if !is_row(*kind, name, *native, *external, *signed)
+            || Kind::of_name(name.as_bytes()) != Ok(*kind)
+        {
+            return Some(name);
+        }
     }
+    None
 }
 
 #[test]
-fn words_name_kinds(rt: HostRuntime) {
-    for (kind, name, _, _, _) in TABLE {
-        assert_eq!(rt; Kind::of_name(name.as_bytes()), Ok(kind), "{name}");
+fn kinds_are_those_of_the_table(rt: HostRuntime) {
+    let other = other_row(&TABLE);
+    assert!(rt; other.is_none(), "{other:?}");
+    assert!(rt; Kind::of_name(b"MPI_LONG_LONG_INT") == Ok(Kind::LongLong));
+}
+
+/// The first word that doesn't give a fault.
+fn other_word(words: &[&'static str], fault: KindFault) -> Option<&'static str> {
+    for word in words {
+        if Kind::of_name(word.as_bytes()) != Err(fault) {
+            return Some(word);
+        }
     }
-    assert_eq!(rt; Kind::of_name(b"MPI_LONG_LONG_INT"), Ok(Kind::LongLong));
-    for name in LEFT_OUT {
-        assert_eq!(rt;
-            Kind::of_name(name.as_bytes()),
-            Err(KindFault::Unsupported),
-            "{name}"
-        );
-    }
-    for word in OTHER_WORDS {
-        assert_eq!(rt;
-            Kind::of_name(word.as_bytes()),
-            Err(KindFault::Unknown),
-            "{word}"
-        );
-    }
+    None
+}
+
+#[test]
+fn other_words_name_no_kinds(rt: HostRuntime) {
+    let named = other_word(&LEFT_OUT, KindFault::Unsupported);
+    assert!(rt; named.is_none(), "{named:?}");
+    let named = other_word(&OTHER_WORDS, KindFault::Unknown);
+    assert!(rt; named.is_none(), "{named:?}");
 }
 
 #[test]

@@ -3,11 +3,21 @@
 #![tactic(auto)]
 
 #[cfg(test)]
+mod arrays;
+#[cfg(test)]
+mod contents;
+#[cfg(test)]
 mod datatypes;
+#[cfg(test)]
+mod defined;
 #[cfg(test)]
 mod elements;
 #[cfg(test)]
+mod flats;
+#[cfg(test)]
 mod kinds;
+#[cfg(test)]
+mod lines;
 #[cfg(test)]
 mod made;
 #[cfg(test)]
@@ -15,8 +25,14 @@ mod placements;
 #[cfg(test)]
 mod ranges;
 #[cfg(test)]
+mod registries;
+#[cfg(test)]
+mod replies;
+#[cfg(test)]
 mod sinks;
 #[cfg(test)]
 mod sources;
+#[cfg(test)]
+mod spelling;
 #[cfg(test)]
 mod typemaps;

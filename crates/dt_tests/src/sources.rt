@@ -29,29 +29,48 @@ fn the_whole_is_read_in_pieces(rt: HostRuntime) -> Result<(), Fail> {
     Ok(())
 }
 
-/// Three reads of 10, 10 and 6 bytes, and one that finds the end.
-#[test]
-fn each_read_may_fail(rt: HostRuntime) -> Result<(), Fail> {
-    for (fail, left) in [(0, 26), (1, 16), (2, 6), (3, 0)] {
-        let mut source = source(rt.alloc(), 10, fail)?;
-        let end = read_all(rt.alloc(), &mut source, 100).err();
-        assert_eq!(rt; end, Some(ReadEnd::Fault), "read {fail}");
-        assert_eq!(rt; source.left().len(), left, "read {fail}");
-    }
-    let mut source = source(rt.alloc(), 10, 4)?;
-    assert!(rt; read_all(rt.alloc(), &mut source, 100)?.as_slice() == TEXT);
-    Ok(())
+/// The number of a read that fails, a limit, how the reading ends, if not with the whole text, and how many bytes are left.
+type Row = (u64, u16, Option<ReadEnd>, usize);
+
+/// Three reads of 10, 10 and 6 bytes, and one that finds the end; and then limits: one byte more is taken, and no other.
+const ROWS: [Row; 10] = [
+    (0, 100, Some(ReadEnd::Fault), 26),
+    (1, 100, Some(ReadEnd::Fault), 16),
+    (2, 100, Some(ReadEnd::Fault), 6),
+    (3, 100, Some(ReadEnd::Fault), 0),
+    (4, 100, None, 0),
+    (9, 25, Some(ReadEnd::TooLong), 0),
+    (9, 24, Some(ReadEnd::TooLong), 1),
+    (9, 10, Some(ReadEnd::TooLong), 15),
+    (9, 9, Some(ReadEnd::TooLong), 16),
+    (9, 0, Some(ReadEnd::TooLong), 25),
+];
+
+/// Whether a row holds for a source that gives 10 bytes at a time.
+fn holds(alloc: Global, row: &Row) -> Result<bool, Fail> {
+    let (fail, limit, wanted, left) = row;
+    let mut source = source(alloc, 10, *fail)?;
+    let ends = match read_all(alloc, &mut source, usize::from(*limit)) {
+        Ok(bytes) => wanted.is_none() && bytes.as_slice() == TEXT,
+        Err(end) => *wanted == Some(end),
+    };
+    Ok(ends && source.left().len() == *left)
 }
 
-/// One byte more than the limit is taken, and no other.
-#[test]
-fn a_limit_is_passed_by_one_byte(rt: HostRuntime) -> Result<(), Fail> {
-    for (limit, left) in [(25, 0), (24, 1), (10, 15), (9, 16), (0, 25)] {
-        let mut source = source(rt.alloc(), 10, u64::MAX)?;
-        let end = read_all(rt.alloc(), &mut source, limit).err();
-        assert_eq!(rt; end, Some(ReadEnd::TooLong), "limit {limit}");
-        assert_eq!(rt; source.left().len(), left, "limit {limit}");
+/// The number of the first row that doesn't hold.
+fn other_row(alloc: Global, rows: &[Row]) -> Result<Option<usize>, Fail> {
+    for (number, row) in rows.iter().enumerate() {
+        if !holds(alloc, row)? {
+            return Ok(Some(number));
+        }
     }
+    Ok(None)
+}
+
+#[test]
+fn faults_and_limits(rt: HostRuntime) -> Result<(), Fail> {
+    let other = other_row(rt.alloc(), &ROWS)?;
+    assert!(rt; other.is_none(), "{other:?}");
     Ok(())
 }
 
@@ -82,18 +101,19 @@ fn a_reader_of_std_is_a_source(rt: HostRuntime) -> Result<(), Fail> {
     let mut whole = StdSource::new(TEXT);
     assert!(rt; read_all(rt.alloc(), &mut whole, 26)?.as_slice() == TEXT);
     let mut source = StdSource::new(Broken { reads: 0 });
-    let mut piece = *b"......";
-    assert_eq!(rt; source.read(&mut piece), Ok(3));
-    assert_eq!(rt; piece, *b"abc...");
-    assert_eq!(rt; source.read(&mut piece), Err(Failed));
-    assert_eq!(rt; piece, *b"abc...");
-    assert_eq!(rt; source.read(&mut piece), Ok(1));
-    assert_eq!(rt; source.read(&mut piece), Ok(0));
-    assert_eq!(rt; piece, *b"dbc...");
-    let mut source = StdSource::new(Broken { reads: 0 });
-    assert_eq!(rt;
-        read_all(rt.alloc(), &mut source, 26).err(),
-        Some(ReadEnd::Fault)
-    );
+    let end = read_all(rt.alloc(), &mut source, 26).err();
+    assert!(rt; end == Some(ReadEnd::Fault));
     Ok(())
+}
+
+#[test]
+fn a_reader_of_std_goes_on_after_a_fault(rt: HostRuntime) {
+    let mut source = StdSource::new(Broken { reads: 0 });
+    let mut piece = *b"......";
+    assert!(rt; source.read(&mut piece) == Ok(3));
+    assert!(rt; source.read(&mut piece) == Err(Failed));
+    assert!(rt; piece == *b"abc...");
+    assert!(rt; source.read(&mut piece) == Ok(1));
+    assert!(rt; source.read(&mut piece) == Ok(0));
+    assert!(rt; piece == *b"dbc...");
 }

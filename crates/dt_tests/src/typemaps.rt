@@ -6,18 +6,26 @@ use std::alloc::{AllocError, Global};
 use std::test::Fail;
 
 /// A kind at each displacement.
-type Entries = &'static [(Kind, i64)];
+pub(crate) type Entries = &'static [(Kind, i64)];
+
+/// Entries, and a lower and an upper mark.
+type Placed = (Entries, Option<(i64, i64)>);
 
 /// The greatest displacement.
 const MOST: i64 = 1_152_921_504_606_846_976;
 
-/// Entries without marks; their bytes, their bytes in external32 and how many they are; the alignment; the true bounds
-/// and the bounds. The upper bound is rounded so that the extent is a multiple of the alignment, wherever the lower one is.
-const WITHOUT_MARKS: [(Entries, [u64; 3], u32, [i64; 4]); 9] = [
-    (&[], [0, 0, 0], 1, [0, 0, 0, 0]),
+/// Entries and marks; the bytes of the entries, their bytes in external32 and how many they are; the alignment; the true
+/// bounds and the bounds.
+type Row = (Entries, Option<(i64, i64)>, [u64; 3], u32, [i64; 4]);
+
+/// Without marks the upper bound is rounded so that the extent is a multiple of the alignment, wherever the lower one
+/// is. Marks are the bounds and are never rounded.
+const ROWS: [Row; 14] = [
+    (&[], None, [0, 0, 0], 1, [0, 0, 0, 0]),
     // An int and a byte: the extent 5 is rounded to 8.
     (
         &[(Kind::Int, 0), (Kind::Byte, 4)],
+        None,
         [5, 5, 2],
         4,
         [0, 5, 0, 8],
@@ -30,6 +38,7 @@ const WITHOUT_MARKS: [(Entries, [u64; 3], u32, [i64; 4]); 9] = [
             (Kind::Int, 6),
             (Kind::Byte, 10),
         ],
+        None,
         [10, 10, 4],
         4,
         [0, 11, 0, 12],
@@ -37,6 +46,7 @@ const WITHOUT_MARKS: [(Entries, [u64; 3], u32, [i64; 4]); 9] = [
     // In falling order: the extent 92 - 57 = 35 is rounded to 36, so the upper bound is 93, no multiple of 4.
     (
         &[(Kind::Int, 88), (Kind::Int, 70), (Kind::Int, 57)],
+        None,
         [12, 12, 3],
         4,
         [57, 92, 57, 93],
@@ -44,6 +54,7 @@ const WITHOUT_MARKS: [(Entries, [u64; 3], u32, [i64; 4]); 9] = [
     // Below 0: the extent -1 - -13 = 12 is rounded to 16, so the upper bound is 3, above 0. A long has 4 bytes in external32.
     (
         &[(Kind::Long, -13), (Kind::Byte, -2)],
+        None,
         [9, 5, 2],
         8,
         [-13, -1, -13, 3],
@@ -56,6 +67,7 @@ const WITHOUT_MARKS: [(Entries, [u64; 3], u32, [i64; 4]); 9] = [
             (Kind::Byte, -2),
             (Kind::Byte, 0),
         ],
+        None,
         [4, 4, 4],
         1,
         [-2, 1, -2, 1],
@@ -63,6 +75,7 @@ const WITHOUT_MARKS: [(Entries, [u64; 3], u32, [i64; 4]); 9] = [
     // The least displacement of all.
     (
         &[(Kind::Int, -MOST)],
+        None,
         [4, 4, 1],
         4,
         [-MOST, 4 - MOST, -MOST, 4 - MOST],
@@ -70,6 +83,7 @@ const WITHOUT_MARKS: [(Entries, [u64; 3], u32, [i64; 4]); 9] = [
     // The greatest end of all.
     (
         &[(Kind::Int, MOST - 4)],
+        None,
         [4, 4, 1],
         4,
         [MOST - 4, MOST, MOST - 4, MOST],
@@ -77,31 +91,47 @@ const WITHOUT_MARKS: [(Entries, [u64; 3], u32, [i64; 4]); 9] = [
     // Only rounding passes it: the extent 2^60 - 1 is rounded to 2^60.
     (
         &[(Kind::LongLong, 1), (Kind::Byte, MOST - 1)],
+        None,
         [9, 9, 2],
         8,
         [1, MOST, 1, MOST + 1],
     ),
-];
-
-/// Entries and marks; the alignment; the true bounds and the bounds, which are the marks and are never rounded.
-const WITH_MARKS: [(Entries, (i64, i64), u32, [i64; 4]); 5] = [
-    (&[], (-3, 5), 1, [0, 0, -3, 5]),
+    (&[], Some((-3, 5)), [0, 0, 0], 1, [0, 0, -3, 5]),
     // A resized int and an int far from it.
     (
         &[(Kind::Int, 0), (Kind::Int, 100)],
-        (0, 4),
+        Some((0, 4)),
+        [8, 8, 2],
         4,
         [0, 104, 0, 4],
     ),
     // The extent 3 is no multiple of the alignment.
-    (&[(Kind::Long, 8)], (1, 4), 8, [8, 16, 1, 4]),
+    (
+        &[(Kind::Long, 8)],
+        Some((1, 4)),
+        [8, 4, 1],
+        8,
+        [8, 16, 1, 4],
+    ),
     // The extent may be negative.
-    (&[(Kind::Short, 0)], (6, -6), 2, [0, 2, 6, -6]),
-    (&[(Kind::Byte, 0)], (-MOST, MOST), 1, [0, 1, -MOST, MOST]),
+    (
+        &[(Kind::Short, 0)],
+        Some((6, -6)),
+        [2, 2, 1],
+        2,
+        [0, 2, 6, -6],
+    ),
+    (
+        &[(Kind::Byte, 0)],
+        Some((-MOST, MOST)),
+        [1, 1, 1],
+        1,
+        [0, 1, -MOST, MOST],
+    ),
 ];
 
 /// Entries and marks of which a displacement, an end or a mark is one past the limit.
-const OUT_OF_RANGE: [(Entries, Option<(i64, i64)>); 9] = [
+const OUT_OF_RANGE: [Placed; 9] = [
     (&[(Kind::Int, -MOST - 1)], None),
     (&[(Kind::Int, MOST - 3)], None),
     (&[(Kind::Byte, MOST)], None),
@@ -116,7 +146,8 @@ const OUT_OF_RANGE: [(Entries, Option<(i64, i64)>); 9] = [
     (&[], Some((0, MOST + 1))),
 ];
 
-fn typemap(
+/// A typemap of entries, and of a lower and an upper mark.
+pub(crate) fn typemap(
     alloc: Global,
     entries: &[(Kind, i64)],
     marks: Option<(i64, i64)>,
@@ -131,64 +162,59 @@ fn typemap(
     Ok(FlatMap::new(list, marks.map(|(lb, ub)| Marks { lb, ub })))
 }
 
-#[test]
-fn natural_bounds(rt: HostRuntime) -> Result<(), Fail> {
-    for (entries, sizes, align, ends) in WITHOUT_MARKS {
-        let bounds = typemap(rt.alloc(), entries, None)??.bounds();
-        assert_eq!(rt;
-            [bounds.size, bounds.ext_size, bounds.elements],
-            sizes,
-            "{entries:?}"
-        );
-        assert_eq!(rt; bounds.align, align, "{entries:?}");
-        assert_eq!(rt;
-            [bounds.true_lb, bounds.true_ub, bounds.lb, bounds.ub],
-            ends,
-            "{entries:?}"
-        );
+/// The bytes of the entries, their bytes in external32 and how many they are; and the alignment.
+fn sizes(map: &FlatMap) -> ([u64; 3], u32) {
+    let bounds = map.bounds();
+    (
+        [bounds.size, bounds.ext_size, bounds.elements],
+        bounds.align,
+    )
+}
+
+fn marks_of(map: &FlatMap) -> Option<(i64, i64)> {
+    match map.marks() {
+        Some(marks) => Some((marks.lb, marks.ub)),
+        None => None,
     }
-    Ok(())
+}
+
+/// The true bounds and the bounds.
+fn ends(map: &FlatMap) -> [i64; 4] {
+    let bounds = map.bounds();
+    [bounds.true_lb, bounds.true_ub, bounds.lb, bounds.ub]
+}
+
+/// The number of the first row that doesn't hold.
+fn other_row(alloc: Global, rows: &[Row]) -> Result<Option<usize>, Fail> {
+    for (number, (entries, marks, wanted, align, bounds)) in rows.iter().enumerate() {
+        let map = typemap(alloc, entries, *marks)??;
+        if sizes(&map) != (*wanted, *align) || ends(&map) != *bounds || marks_of(&map) != *marks {
+            return Ok(Some(number));
+        }
+    }
+    Ok(None)
 }
 
 #[test]
-fn marks_are_the_bounds(rt: HostRuntime) -> Result<(), Fail> {
-    for (entries, (lb, ub), align, ends) in WITH_MARKS {
-        let map = typemap(rt.alloc(), entries, Some((lb, ub)))??;
-        assert_eq!(rt; map.marks(), Some(Marks { lb, ub }), "{entries:?}");
-        let bounds = map.bounds();
-        assert_eq!(rt; bounds.align, align, "{entries:?}");
-        assert_eq!(rt;
-            [bounds.true_lb, bounds.true_ub, bounds.lb, bounds.ub],
-            ends,
-            "{entries:?}"
-        );
-    }
+fn bounds_of_entries(rt: HostRuntime) -> Result<(), Fail> {
+    let other = other_row(rt.alloc(), &ROWS)?;
+    assert!(rt; other.is_none(), "{other:?}");
     Ok(())
+}
+
+/// The number of the first typemap that is made.
+fn in_range(alloc: Global, rows: &[Placed]) -> Result<Option<usize>, Fail> {
+    for (number, (entries, marks)) in rows.iter().enumerate() {
+        if typemap(alloc, entries, *marks)?.err() != Some(MapFault::Overflow) {
+            return Ok(Some(number));
+        }
+    }
+    Ok(None)
 }
 
 #[test]
 fn one_past_the_limit_overflows(rt: HostRuntime) -> Result<(), Fail> {
-    for (entries, marks) in OUT_OF_RANGE {
-        let fault = typemap(rt.alloc(), entries, marks)?.err();
-        assert_eq!(rt; fault, Some(MapFault::Overflow), "{entries:?} {marks:?}");
-    }
-    Ok(())
-}
-
-#[test]
-fn entries_stay_in_order(rt: HostRuntime) -> Result<(), Fail> {
-    let map = typemap(rt.alloc(), &[(Kind::Int, 8), (Kind::Byte, -2)], None)??;
-    let entries = [
-        Entry {
-            kind: Kind::Int,
-            disp: 8,
-        },
-        Entry {
-            kind: Kind::Byte,
-            disp: -2,
-        },
-    ];
-    assert_eq!(rt; map.entries(), entries.as_slice());
-    assert_eq!(rt; map.marks(), None);
+    let made = in_range(rt.alloc(), &OUT_OF_RANGE)?;
+    assert!(rt; made.is_none(), "{made:?}");
     Ok(())
 }

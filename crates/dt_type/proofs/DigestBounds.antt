@@ -1,34 +1,30 @@
 -- The bounds that a digest tells are those of the typemap.
-use Rattle.std.specs.Prelude.{◌≡◌, Option, Some, None, ℕ, ◌≤◌, ℤ, pos, List, map, length, unwrap_or}
+use Rattle.std.specs.Prelude.{◌≡◌, Option, Some, None, ℕ, ◌≤◌, List, length}
 use Rattle.std.proofs.Common.{refl, sym, ap, subst, ◌∙◌, arith}
 use Rattle.dt_map.specs.declared.typemap.Bounds.{Bounds}
 use Rattle.dt_map.specs.declared.typemap.Entry.{Entry}
 use Rattle.dt_map.specs.declared.typemap.Marks.{Marks}
-use Rattle.dt_map.specs.Bounds.{bounds_of, size_of, external_size_of, alignment, true_lb, true_ub, end_of}
-use Rattle.dt_map.specs.Numbers.{least, greatest}
+use Rattle.dt_map.specs.Bounds.{bounds_of, size_of, external_size_of, alignment, true_lb, true_ub}
+use Rattle.dt_map.specs.Span.{span_of}
+use Rattle.dt_map.specs.Summary.{lb_or_zero, ub_or_zero}
 use Rattle.dt_map.specs.Typemap.{Marked}
+use Rattle.dt_map.proofs.Summaries.{true_lb_is, true_ub_is}
 use Rattle.dt_type.specs.Datatype.{AreInRange, IsInRange}
 use Rattle.dt_type.specs.Digest.{digest_of}
 use Rattle.dt_type.specs.Range.{ends_of, outer_ends, bounds_from}
 use Rattle.dt_type.specs.Reach.{capped}
-use Rattle.dt_type.specs.Span.{span_of}
 use Rattle.dt_type.proofs.Counted.{elements_fit, external_fits}
 use Rattle.dt_type.proofs.Reaches.{below_most}
-use Rattle.dt_type.proofs.TrueSpans.{Paired, neither, both, paired}
-
-ends_paired : (l g : Option ℤ) (s : Option Marks) → Paired l g s → ends_of s ≡ (let m : Marks = record { lb = unwrap_or l (pos 0); ub = unwrap_or g (pos 0) } in m)
-ends_paired None None None neither = refl
-ends_paired None None (Some s) p = elim p [ ]
-ends_paired None (Some g) s p = elim p [ ]
-ends_paired (Some l) None s p = elim p [ ]
-ends_paired (Some l) (Some g) None p = elim p [ ]
-ends_paired (Some l) (Some g) (Some s) (both _ _) = refl
 
 abbrev true_ends : List Entry → Marks
 true_ends es = record { lb = true_lb es; ub = true_ub es }
 
+ends_of_span : (s : Option Marks) → ends_of s ≡ record { lb = lb_or_zero s; ub = ub_or_zero s }
+ends_of_span None = refl
+ends_of_span (Some s) = refl
+
 ends_are : (es : List Entry) → ends_of (span_of es) ≡ true_ends es
-ends_are es = ends_paired (least (map (λ e. e.disp) es)) (greatest (map end_of es)) (span_of es) (paired es)
+ends_are es = let low = true_lb_is es in let high = true_ub_is es in let ends = ends_of_span (span_of es) in cc
 
 -- the entries with marks of their own
 abbrev pub with_marks : Marked → Option Marks → Marked

@@ -12,10 +12,11 @@ use Rattle.std.proofs.Math.Seq.{drop-cons}
 use Rattle.dt_map.specs.declared.typemap.Marks.{Marks}
 use Rattle.dt_map.specs.Numbers.{below}
 use Rattle.dt_map.specs.Placing.{joined_marks}
+use Rattle.dt_map.specs.Span.{reach_of, point}
 use Rattle.dt_type.specs.declared.shape.Turns.{Turns}
 use Rattle.dt_type.specs.Conditions.{AreTurns, AreNested}
 use Rattle.dt_type.specs.Shape.{row_offsets, turn_offset, turn_offsets, grid_offsets}
-use Rattle.dt_type.specs.Span.{reach_of, point, IsNear}
+use Rattle.dt_type.specs.Span.{IsNear}
 use Rattle.dt_type.proofs.GridNear.{grid_whole_near}
 use Rattle.dt_type.proofs.Lookups.{sum_at, slice_get-left, slice_get-right, grid-inner}
 use Rattle.dt_type.proofs.Near.{grid_near}

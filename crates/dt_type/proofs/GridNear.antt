@@ -5,11 +5,12 @@ use Rattle.std.proofs.Common.{sym, ap, subst, arith}
 use Rattle.std.proofs.lemmas.Int.{ints}
 use Rattle.std.proofs.lemmas.List.{take_all}
 use Rattle.dt_map.specs.declared.typemap.Marks.{Marks}
+use Rattle.dt_map.specs.Span.{reach_of, point, stretched}
 use Rattle.dt_type.specs.declared.shape.Turns.{Turns}
 use Rattle.dt_type.specs.declared.span.Reach.{Reach}
 use Rattle.dt_type.specs.Conditions.{AreTurns, AreNested}
 use Rattle.dt_type.specs.Shape.{turn_offsets, grid_offsets}
-use Rattle.dt_type.specs.Span.{reach_of, point, stretched, IsNear}
+use Rattle.dt_type.specs.Span.{IsNear}
 use Rattle.dt_type.proofs.Near.{turns_near, disps_near, zero_near}
 use Rattle.dt_type.proofs.Reaches.{reach-sums}
 

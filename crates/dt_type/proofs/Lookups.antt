@@ -5,6 +5,7 @@ use Rattle.std.specs.Option.{option_map}
 use Rattle.std.proofs.Common.{refl, sym, ap, ◌∙◌, arith}
 use Rattle.std.proofs.lemmas.Grind.{flat_map-append}
 use Rattle.std.proofs.lemmas.Int.{ints}
+use Rattle.std.proofs.lemmas.List.Folds.{flat_map-map}
 use Rattle.std.proofs.lemmas.List.{map-append, append-nil, length-map, drop_all}
 use Rattle.std.proofs.lemmas.Nat.{div-add-mod'}
 use Rattle.std.proofs.lemmas.Option.{slice_get-map, slice_get-get_or}
@@ -53,10 +54,6 @@ module _ {X A : Type 0} (f : X → List A) (n : ℕ) (each : (x : X) → length 
       let long = some_long (length xs) k h in
       let split = div-add-mod' k n in
       ap (slice_get (flat_map f xs)) (sym split) ∙ block_at xs (k / n) (k % n) d ((div-lt_iff_lt-mul long).1 h) (mod-lt k long)
-
-flat_map-map : {X Y A : Type 0} (f : Y → List A) (g : X → Y) (xs : List X) → flat_map f (map g xs) ≡ flat_map (λ x. f (g x)) xs
-flat_map-map f g [] = refl
-flat_map-map f g (x ∷ xs) = ap (λ ys. f (g x) ++ ys) (flat_map-map f g xs)
 
 -- an entry of copies of one typemap
 pub copy_at : (xs : List ℤ) (m : Marked) (k : ℕ) (d : ℤ) → k < length xs * length m.entries
@@ -125,7 +122,7 @@ module _ {X A : Type 0} (f : X → List A) (xs : List X) (i : ℕ) (x d : X) (lt
       ∙ ap (slice_get (f x ++ flat_map f (drop (i + 1) xs))) e
       ∙ slice_get-right (f x) (flat_map f (drop (i + 1) xs)) (k - length (f x))
 
-flat_map-flat_map : {X Y A : Type 0} (f : Y → List A) (g : X → List Y) (xs : List X) → flat_map f (flat_map g xs) ≡ flat_map (λ x. flat_map f (g x)) xs
+pub flat_map-flat_map : {X Y A : Type 0} (f : Y → List A) (g : X → List Y) (xs : List X) → flat_map f (flat_map g xs) ≡ flat_map (λ x. flat_map f (g x)) xs
 flat_map-flat_map f g [] = refl
 flat_map-flat_map f g (x ∷ xs) = flat_map-append f (g x) (flat_map g xs) ∙ ap (λ ys. flat_map f (g x) ++ ys) (flat_map-flat_map f g xs)
 

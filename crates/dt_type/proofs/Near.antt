@@ -9,10 +9,11 @@ use Rattle.dt_kinds.specs.Displacement.{FitsDisp}
 use Rattle.dt_map.specs.declared.typemap.Marks.{Marks}
 use Rattle.dt_map.specs.Numbers.{below}
 use Rattle.dt_map.specs.Placing.{joined_marks}
+use Rattle.dt_map.specs.Span.{point, reach_of}
 use Rattle.dt_type.specs.declared.shape.Turns.{Turns}
 use Rattle.dt_type.specs.Conditions.{IsFactor, AreTurns, AreNested}
 use Rattle.dt_type.specs.Shape.{row_offsets, turn_offset, turn_offsets, grid_offsets}
-use Rattle.dt_type.specs.Span.{point, reach_of, IsWithin, IsNear}
+use Rattle.dt_type.specs.Span.{IsWithin, IsNear}
 use Rattle.dt_type.proofs.Products.{product_near}
 
 pub joined_within : (n : ℕ) (a b : Option Marks) → IsWithin n a → IsWithin n b → IsWithin n (joined_marks a b)

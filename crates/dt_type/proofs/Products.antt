@@ -1,7 +1,7 @@
 -- How great the products of a count and a factor are, and their sign.
-use Rattle.std.specs.Prelude.{◌≡◌, ℕ, suc, ◌+◌, ◌*◌, ◌^◌, ◌<◌, ◌≤◌, ℤ, pos, negsuc, ◌+ℤ◌, ◌*ℤ◌, ◌≤ℤ◌, nat_abs, FitsSigned}
+use Rattle.std.specs.Prelude.{◌≡◌, ℕ, suc, ◌+◌, ◌*◌, ◌^◌, ◌<◌, ◌≤◌, ℤ, pos, negsuc, ◌+ℤ◌, ◌*ℤ◌, nat_abs, FitsSigned}
 use Rattle.std.proofs.Common.{ap, ◌∙◌, arith}
-use Rattle.std.proofs.Math.IntN.{neg_ℤ, pos-*ℤ-pos, pos-*ℤ-negsuc, suc_ℤ-*ℤ}
+use Rattle.std.proofs.Math.IntN.{neg_ℤ, pos-*ℤ-pos, pos-*ℤ-negsuc}
 use Rattle.std.proofs.Math.Nat.{mul-le-mul_left}
 use lib.Signed.{mag}
 use mir.Syntax.{w128}
@@ -12,9 +12,6 @@ use Rattle.dt_type.specs.Conditions.{IsFactor}
 size_of_neg : (n : ℕ) → nat_abs (neg_ℤ (pos n)) ≡ n
 size_of_neg n = omega (arith, ints)
 
-neg_below : (n : ℕ) → neg_ℤ (pos n) ≤ℤ pos 0
-neg_below n = omega (arith, ints)
-
 pub size_of_product : (n : ℕ) (x : ℤ) → nat_abs (pos n *ℤ x) ≡ n * nat_abs x
 size_of_product n (pos m) = ap nat_abs (pos-*ℤ-pos n m)
 size_of_product n (negsuc m) = ap nat_abs (pos-*ℤ-negsuc n m) ∙ size_of_neg (n * suc m)
@@ -24,18 +21,6 @@ product_near n x factor =
     let small : nat_abs x ≤ 2 ^ 93 = omega arith in
     let bound : n * nat_abs x ≤ n * 2 ^ 93 = mul-le-mul_left n small in
     omega (arith, size_of_product n x)
-
--- a product has the sign of its factor
-pub data SameSign (product factor : ℤ) : Type 0 where
-  positive : pos 0 ≤ℤ product → pos 0 ≤ℤ factor → SameSign product factor
-  negative : product ≤ℤ pos 0 → factor ≤ℤ pos 0 → SameSign product factor
-
-pub same_sign : (n : ℕ) (x : ℤ) → SameSign (pos n *ℤ x) x
-same_sign n (pos m) = let e = pos-*ℤ-pos n m in positive (omega (arith, ints)) (omega (arith, ints))
-same_sign n (negsuc m) = let e = pos-*ℤ-negsuc n m in let h = neg_below (n * suc m) in negative (omega (arith, ints)) (omega (arith, ints))
-
-pub one_more : (n : ℕ) (x : ℤ) → pos (suc n) *ℤ x ≡ (pos n *ℤ x) +ℤ x
-one_more n x = suc_ℤ-*ℤ (pos n) x
 
 -- products and sums that fit 128 bits, read back from them
 module _ (first step : ℤ) (n : ℕ) (factor : IsFactor step) (near : nat_abs first + n * 2 ^ 93 < 2 ^ 126) where

@@ -6,18 +6,20 @@ use Rattle.std.proofs.lemmas.Bool.{cases_lt}
 use Rattle.std.proofs.lemmas.Int.{ints}
 use Rattle.std.proofs.lemmas.Grind.{flat_map-append}
 use Rattle.std.proofs.lemmas.List.{length-map, append-nil, take_more}
+use Rattle.std.proofs.Math.IntN.{+ℤ_comm}
 use Rattle.std.proofs.Math.Nat.{mul-le-mul_left, mul_comm, mul_assoc}
 use Rattle.dt_map.specs.declared.typemap.Marks.{Marks}
 use Rattle.dt_map.specs.Numbers.{below}
-use Rattle.dt_map.specs.Typemap.{shift_marks}
+use Rattle.dt_map.specs.Span.{point, reach_of, stretched}
+use Rattle.dt_map.specs.Laws.{sums as map_sums}
+use Rattle.dt_map.proofs.Offsets.{reach_of_sums}
+use Rattle.dt_map.proofs.Summaries.{both, spans-append}
 use Rattle.dt_type.specs.declared.shape.Spot.{Spot}
 use Rattle.dt_type.specs.declared.shape.Turns.{Turns}
 use Rattle.dt_type.specs.declared.span.Reach.{Reach}
 use Rattle.dt_type.specs.Conditions.{AreTurns}
 use Rattle.dt_type.specs.Reach.{capped, reach, beside, nested}
 use Rattle.dt_type.specs.Shape.{row_offsets, turn_offset, turn_offsets, grid_offsets, spot_offsets}
-use Rattle.dt_type.specs.Span.{point, reach_of, stretched}
-use Rattle.dt_type.proofs.Spans.{some_same, spans-append, spans-map, spans-flat_map, spans-same, spans-shift, spans-copies}
 
 abbrev most : ℕ
 most = 2 ^ 64 - 1
@@ -63,34 +65,32 @@ length-sums (x ∷ xs) ys =
     let rest = length-sums xs ys in
     omega arith
 
-point_moved : (x y : ℤ) → point (x +ℤ y) ≡ shift_marks x (point y)
-point_moved x y = let e : x +ℤ y ≡ y +ℤ x = omega (arith, ints) in ap point e
-
-moved : (x : ℤ) (ys : List ℤ) → reach_of (map (λ y. x +ℤ y) ys) ≡ shift_marks x (reach_of ys)
-moved x ys =
-    spans-map point (λ y. x +ℤ y) ys
-    ∙ spans-same (λ y. point (x +ℤ y)) (λ y. shift_marks x (point y)) (λ y. point_moved x y) ys
-    ∙ spans-shift x point ys
+-- as dt_map writes them, with the summands in the other order
+same-sums : (xs ys : List ℤ) → sums xs ys ≡ map_sums xs ys
+same-sums [] ys = refl
+same-sums (x ∷ xs) ys = ap (λ us. us ++ sums xs ys) (turned ys) ∙ ap (λ us. map (λ y. y +ℤ x) ys ++ us) (same-sums xs ys)
+  where
+    turned : (ys : List ℤ) → map (λ y. x +ℤ y) ys ≡ map (λ y. y +ℤ x) ys
+    turned [] = refl
+    turned (y ∷ ys) = ap (λ u. u ∷ map (λ y. x +ℤ y) ys) (+ℤ_comm x y) ∙ ap (λ us. (y +ℤ x) ∷ us) (turned ys)
 
 pub reach-sums : (xs ys : List ℤ) → reach (sums xs ys) ≡ nested (reach xs) (reach ys)
 reach-sums xs ys =
     reach_same _ _ _ _
     (ap capped (length-sums xs ys) ∙ sym (capped-mul-left (length xs) (length ys)) ∙ sym (capped-mul (capped (length xs)) (length ys)))
-    (spans-flat_map point (λ x. map (λ y. x +ℤ y) ys) xs
-    ∙ spans-same (λ x. reach_of (map (λ y. x +ℤ y) ys)) (λ x. shift_marks x (reach_of ys)) (λ x. moved x ys) xs
-    ∙ spans-copies (reach_of ys) xs)
+    (ap reach_of (same-sums xs ys) ∙ reach_of_sums xs ys)
 
 stretched-comm : (a b : Option Marks) → stretched a b ≡ stretched b a
 stretched-comm None None = refl
 stretched-comm None (Some b) = refl
 stretched-comm (Some a) None = refl
-stretched-comm (Some a) (Some b) = some_same _ _ _ _ (omega (arith, ints)) (omega (arith, ints))
+stretched-comm (Some a) (Some b) = both _ _ _ _ (omega (arith, ints)) (omega (arith, ints))
 
 stretched-assoc : (a b c : Option Marks) → stretched a (stretched b c) ≡ stretched (stretched a b) c
 stretched-assoc None b c = refl
 stretched-assoc (Some a) None c = refl
 stretched-assoc (Some a) (Some b) None = refl
-stretched-assoc (Some a) (Some b) (Some c) = some_same _ _ _ _ (omega (arith, ints)) (omega (arith, ints))
+stretched-assoc (Some a) (Some b) (Some c) = both _ _ _ _ (omega (arith, ints)) (omega (arith, ints))
 
 nested-comm : (a b : Reach) → nested a b ≡ nested b a
 nested-comm a b = reach_same _ _ _ _ (ap capped (mul_comm a.copies b.copies)) (stretched-comm a.span b.span)

@@ -4,6 +4,7 @@ use Rattle.std.proofs.Common.{refl, sym, ap, subst, ◌∙◌, arith}
 use Rattle.dt_map.specs.declared.typemap.Marks.{Marks}
 use Rattle.dt_map.specs.Bounds.{bounds_of}
 use Rattle.dt_map.specs.Typemap.{Marked}
+use Rattle.dt_map.proofs.Extremes.{alignment-pos}
 use Rattle.dt_type.specs.declared.datatype.Seen.{Seen}
 use Rattle.dt_type.specs.declared.digest.Digest.{Digest}
 use Rattle.dt_type.specs.declared.fault.CtorFault.{CtorFault}
@@ -15,7 +16,6 @@ use Rattle.dt_type.specs.Digest.{digest_of}
 use Rattle.dt_type.specs.Measure.{IsRefusal}
 use Rattle.dt_type.specs.Range.{bounds_from}
 use Rattle.dt_type.specs.Shape.{covered, covered_marks}
-use Rattle.dt_type.proofs.Counted.{least_alignment}
 use Rattle.dt_type.proofs.DigestBounds.{told, tells}
 
 module _ (m : Marked) (cover : Cover) (d : Digest) (marks : Option Marks) (known : d ≡ digest_of m) (left : marks ≡ covered_marks cover d.marks) where
@@ -35,7 +35,7 @@ module _ (m : Marked) (cover : Cover) (d : Digest) (marks : Option Marks) (known
   out_of_range range = subst AreInRange (sym same) (tells m (covered_marks cover m.marks) range)
 
   pub aligned : 1 ≤ d.align
-  aligned = let h = least_alignment m.entries in let e = ap (λ (x : Digest). x.align) known in omega arith
+  aligned = let h = alignment-pos m.entries in let e = ap (λ (x : Digest). x.align) known in omega arith
 
 pub overflow_only : {T : Type 0} (m : Marked) (f : FormOf Seen) (fault : CtorFault) → IsRefusal m f fault → IsErrOf {T = T} (Err fault) Overflow ↔ ¬ IsInRange m
 overflow_only m f Overflow h = ((λ e. h), λ n. refl)

@@ -11,7 +11,7 @@ use Rattle.dt_type.specs.Arguments.{takes_arguments}
 use Rattle.dt_type.specs.Conditions.{IsShapeFor}
 use Rattle.dt_type.specs.Datatype.{Layer, typemap_of, form_of, depth_of, IsInRange}
 use Rattle.dt_type.specs.Falls.{has_level}
-use Rattle.dt_type.specs.Form.{result_of, map_by, weight_by, deepest}
+use Rattle.dt_type.specs.Form.{result_of, map_by, weight_by, items_of, deepest}
 use Rattle.dt_type.proofs.Counted.{sound_elements, sound_external, sound_alignment}
 use Rattle.dt_type.specs.Shape.{olds_of}
 use Rattle.dt_type.specs.Sound.{Sound, layer_of, view_of, map_of}
@@ -49,6 +49,13 @@ shown_arguments n t e sound = subst (λ (f : FormOf Seen). IsTrue (takes_argumen
 pub shown_shape : (n : Node) (t : Seen) → view_of n ≡ t → Sound n → IsShapeFor n.shape (form_of t)
 shown_shape n t e sound = subst (IsShapeFor n.shape) (sym (shown_form n t e)) sound.shape
 
+pub shown_few : (n : Node) (t : Seen) → view_of n ≡ t → Sound n → items_of (form_of t) < 65536
+shown_few n t e sound =
+    let same = ap items_of (shown_form n t e) in
+    let weight = sound.weight in
+    let light = sound.light in
+    omega arith
+
 -- what the readers' clauses rest on
 all_under : (limit : ℕ) (olds : List Seen) → deepest olds < limit → AllByRecursion (λ old. depth_of old < limit) olds
 all_under limit [] h = tt
@@ -62,4 +69,4 @@ shown_below n t e sound =
     let level = has_level n.form sound.shape.arguments in
     all_under (depth_of t) (olds_of n.shape) (omega arith)
 
-pub ruleset readers = (shown, shown_bounds, shown_range, shown_given, shown_arguments, shown_shape, shown_below, given, sound_elements, sound_external, sound_alignment)
+pub ruleset readers = (shown, shown_bounds, shown_range, shown_given, shown_arguments, shown_shape, shown_few, shown_below, given, sound_elements, sound_external, sound_alignment)

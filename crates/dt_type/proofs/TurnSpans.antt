@@ -1,49 +1,51 @@
 -- The span of turns: that of their whole blocks, and that of the turns in the last block.
-use Rattle.std.specs.Prelude.{◌≡◌, ℕ, ◌+◌, ◌*◌, ◌/◌, ◌%◌, ◌<◌, ◌≤◌, ℤ, pos, ◌+ℤ◌, ◌*ℤ◌, List, map, ◌++◌}
+use Rattle.std.specs.Prelude.{◌≡◌, ℕ, ◌+◌, ◌*◌, ◌/◌, ◌%◌, ◌<◌, ◌≤◌, ℤ, pos, ◌+ℤ◌, ◌*ℤ◌, List, [], ◌∷◌, map, ◌++◌}
 use Rattle.std.specs.List.{flat_map}
-use Rattle.std.proofs.Common.{sym, ap, ◌∙◌, arith}
+use Rattle.std.proofs.Common.{refl, ap, ◌∙◌, arith}
 use Rattle.std.proofs.lemmas.Int.{ints}
 use Rattle.std.proofs.Math.Nat.{mod-lt}
+use Rattle.dt_map.specs.Laws.{sums}
 use Rattle.dt_map.specs.Numbers.{below}
 use Rattle.dt_map.specs.Placing.{joined_marks}
-use Rattle.dt_map.specs.Typemap.{shift_marks}
+use Rattle.dt_map.specs.Span.{point, reach_of, stretched}
+use Rattle.dt_map.proofs.Offsets.{in_rows_of, reach_of_sums}
+use Rattle.dt_map.proofs.Summaries.{spans-append}
 use Rattle.dt_type.specs.declared.shape.Turns.{Turns}
 use Rattle.dt_type.specs.Shape.{row_offsets, turn_offset, turn_offsets}
-use Rattle.dt_type.specs.Span.{point, reach_of, stretched}
-use Rattle.dt_type.proofs.InRows.{in_rows}
-use Rattle.dt_type.proofs.Spans.{spans-append, spans-map, spans-flat_map, spans-same, spans-shift, spans-copies}
-
-point_shift : (x p : ℤ) → point (x +ℤ p) ≡ shift_marks x (point (pos 0 +ℤ p))
-point_shift x p = let e : x +ℤ p ≡ (pos 0 +ℤ p) +ℤ x = omega (arith, ints) in ap point e
-
--- a row begun elsewhere
-pub row-shift : (x step : ℤ) (n : ℕ) → reach_of (row_offsets x n step) ≡ shift_marks x (reach_of (row_offsets (pos 0) n step))
-row-shift x step n =
-    spans-map point (λ j. x +ℤ (pos j *ℤ step)) (below n)
-    ∙ spans-same (λ j. point (x +ℤ (pos j *ℤ step))) (λ j. shift_marks x (point (pos 0 +ℤ (pos j *ℤ step)))) (λ j. point_shift x (pos j *ℤ step)) (below n)
-    ∙ spans-shift x (λ j. point (pos 0 +ℤ (pos j *ℤ step))) (below n)
-    ∙ ap (shift_marks x) (sym (spans-map point (λ j. pos 0 +ℤ (pos j *ℤ step)) (below n)))
 
 abbrev pub whole_blocks : ℤ → ℕ → ℤ → ℕ → ℤ → List ℤ
 whole_blocks first blocks jump block step = flat_map (λ i. row_offsets (first +ℤ (pos i *ℤ jump)) block step) (below blocks)
 
-pub blocks-reach : (first : ℤ) (blocks : ℕ) (jump : ℤ) (block : ℕ) (step : ℤ)
+-- a row begun elsewhere
+row-further : (x step : ℤ) (n : ℕ) → row_offsets x n step ≡ map (λ y. y +ℤ x) (row_offsets (pos 0) n step)
+row-further x step n = same (below n)
+  where
+    same : (js : List ℕ) → map (λ j. x +ℤ (pos j *ℤ step)) js ≡ map (λ y. y +ℤ x) (map (λ j. pos 0 +ℤ (pos j *ℤ step)) js)
+    same [] = refl
+    same (j ∷ js) =
+        let here : x +ℤ (pos j *ℤ step) ≡ (pos 0 +ℤ (pos j *ℤ step)) +ℤ x = omega (arith, ints) in
+        ap (λ y. y ∷ map (λ j. x +ℤ (pos j *ℤ step)) js) here ∙ ap (λ ys. ((pos 0 +ℤ (pos j *ℤ step)) +ℤ x) ∷ ys) (same js)
+
+blocks-sums : (first jump : ℤ) (block : ℕ) (step : ℤ) (is : List ℕ)
+    → flat_map (λ i. row_offsets (first +ℤ (pos i *ℤ jump)) block step) is ≡ sums (map (λ i. first +ℤ (pos i *ℤ jump)) is) (row_offsets (pos 0) block step)
+blocks-sums first jump block step [] = refl
+blocks-sums first jump block step (i ∷ is) =
+    let start = first +ℤ (pos i *ℤ jump) in
+    ap (λ ys. ys ++ flat_map (λ i. row_offsets (first +ℤ (pos i *ℤ jump)) block step) is) (row-further start step block)
+    ∙ ap (λ ys. map (λ y. y +ℤ start) (row_offsets (pos 0) block step) ++ ys) (blocks-sums first jump block step is)
+
+blocks-reach : (first : ℤ) (blocks : ℕ) (jump : ℤ) (block : ℕ) (step : ℤ)
     → reach_of (whole_blocks first blocks jump block step) ≡ stretched (reach_of (row_offsets first blocks jump)) (reach_of (row_offsets (pos 0) block step))
 blocks-reach first blocks jump block step =
-    let inner = reach_of (row_offsets (pos 0) block step) in
-    spans-flat_map point (λ i. row_offsets (first +ℤ (pos i *ℤ jump)) block step) (below blocks)
-    ∙ spans-same (λ i. reach_of (row_offsets (first +ℤ (pos i *ℤ jump)) block step)) (λ i. shift_marks (first +ℤ (pos i *ℤ jump)) inner)
-    (λ i. row-shift (first +ℤ (pos i *ℤ jump)) step block) (below blocks)
-    ∙ sym (spans-map (λ x. shift_marks x inner) (λ i. first +ℤ (pos i *ℤ jump)) (below blocks))
-    ∙ spans-copies inner (row_offsets first blocks jump)
+    ap reach_of (blocks-sums first jump block step (below blocks)) ∙ reach_of_sums (row_offsets first blocks jump) (row_offsets (pos 0) block step)
 
-pub turns-rows : (t : Turns) → 1 ≤ t.block
+turns-rows : (t : Turns) → 1 ≤ t.block
     → turn_offsets t ≡ whole_blocks t.first (t.count / t.block) t.jump t.block t.step ++ row_offsets (t.first +ℤ (pos (t.count / t.block) *ℤ t.jump)) (t.count % t.block) t.step
 turns-rows t h =
     let split : t.count ≡ t.count / t.block * t.block + t.count % t.block = omega arith in
     let rest : t.count % t.block < t.block = mod-lt t.count (omega arith) in
     ap (λ k. map (turn_offset t) (below k)) split
-    ∙ in_rows (λ i j. (t.first +ℤ (pos i *ℤ t.jump)) +ℤ (pos j *ℤ t.step)) t.block (t.count / t.block) (t.count % t.block) (omega arith)
+    ∙ in_rows_of (λ i j. (t.first +ℤ (pos i *ℤ t.jump)) +ℤ (pos j *ℤ t.step)) t.block (t.count / t.block) (t.count % t.block) (omega arith)
 
 pub turns-reach : (t : Turns) → 1 ≤ t.block
     → reach_of (turn_offsets t)

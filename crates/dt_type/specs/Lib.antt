@@ -1,11 +1,17 @@
 pub mod Arguments
 pub mod Arrays
+pub mod Basic
 pub mod Conditions
 pub mod Constructors
+pub mod Contents
 pub mod Datatype
+pub mod Decoding
 pub mod Digest
 pub mod Falls
+pub mod Flatten
 pub mod Form
+pub mod Laws
+pub mod Listing
 pub mod Measure
 pub mod Range
 pub mod Reach

@@ -1,12 +1,11 @@
 //! A datatype: a marked typemap with its form, shared by `Rc`.
 ghost use Rattle.std.specs.Prelude.{◌≡◌, ◌≤◌, ◌<◌, IsTrue, IfOk};
 ghost use Rattle.std.specs.List.{AllByRecursion};
-ghost use Rattle.dt_kinds.specs.Kind.{external_size};
 ghost use Rattle.dt_map.specs.Bounds.{bounds_of};
 ghost use Rattle.dt_type.specs.Arguments.{takes_arguments};
 ghost use Rattle.dt_type.specs.Conditions.{IsShapeFor};
 ghost use Rattle.dt_type.specs.Datatype.{typemap_of, entries_of, marks_of, form_of, weight_of, depth_of, IsInRange};
-ghost use Rattle.dt_type.specs.Form.{result_of, map_by};
+ghost use Rattle.dt_type.specs.Form.{result_of, map_by, items_of};
 ghost use Rattle.dt_type.specs.Shape.{placed_by, olds_of as placed_olds};
 ghost use Rattle.dt_type.specs.Sound.{Sound};
 
@@ -141,11 +140,12 @@ impl Datatype {
         self.node.depth
     }
 
-    /// The constructor and its arguments. All that is seen of the datatype is what they give.
+    /// The constructor and its arguments, with fewer than 65,536 items. All that is seen of the datatype is what they give.
     pub fn form(&self) -> &Form
         ensures value { result.now ≡ form_of self.now }
         ensures made { self.now ≡ result_of (form_of self.now) }
         ensures arguments { IsTrue (takes_arguments (form_of self.now)) }
+        ensures few { items_of (form_of self.now) < 65536 }
     {
         &self.node.form
     }
@@ -168,22 +168,12 @@ fn bounds_of_kind(kind: Kind) -> Bounds
     let size = kind.size();
     Bounds {
         size: u64::from(size),
-        ext_size: u64::from(external_size_of(kind)),
+        ext_size: u64::from(kind.ext_size()),
         elements: 1,
         align: size,
         true_lb: 0,
         true_ub: i64::from(size),
         lb: 0,
         ub: i64::from(size),
-    }
-}
-
-/// The bytes of an element in external32.
-pub(crate) fn external_size_of(kind: Kind) -> u32
-    ensures { result ≡ external_size kind }
-{
-    match kind {
-        Kind::Long | Kind::UnsignedLong => 4,
-        _ => kind.size(),
     }
 }

@@ -9,7 +9,7 @@ ghost use Rattle.dt_type.specs.Reach.{capped};
 ghost use Rattle.dt_type.specs.Shape.{placed_by, placed_parts};
 ghost use Rattle.dt_type.specs.Span.{IsNear};
 
-use crate::datatype::{Datatype, external_size_of};
+use crate::datatype::Datatype;
 use crate::shape::{Shape, ShapeOf, ShapePart};
 use crate::span::{self, Reach, Span, grid_reach, row_reach, spots_reach, stretched};
 use dt_kinds::Kind;
@@ -108,7 +108,7 @@ fn of_kind(kind: Kind) -> Digest
     let size = kind.size();
     Digest {
         size: u64::from(size),
-        ext_size: u64::from(external_size_of(kind)),
+        ext_size: u64::from(kind.ext_size()),
         elements: 1,
         align: size,
         span: Some(Span {

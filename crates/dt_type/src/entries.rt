@@ -26,7 +26,7 @@ fn turn_at(turns: &Turns, turn: u64) -> i128
 }
 
 /// The offset of one of the copies that nested turns place.
-fn grid_at(turns: &[Turns], copies: u64, copy: u64) -> i128
+pub(crate) fn grid_at(turns: &[Turns], copies: u64, copy: u64) -> i128
     requires turns { AllByRecursion AreTurns turns.now }
     requires nested { AreNested turns.now }
     requires copies { copies ≡ length (grid_offsets turns.now) }
@@ -116,19 +116,25 @@ fn in_row(first: i128, copies: u32, step: i128, old: &Datatype, entry: u64) -> (
 }
 
 /// An entry so many bytes further on.
+pub(crate) fn further(entry: Entry, offset: i128) -> Entry
+    requires { FitsDisp (entry.disp +ℤ offset) }
+    ensures { result ≡ shift_entry offset entry }
+{
+    let disp = i128::from(entry.disp) + offset;
+    Entry {
+        kind: entry.kind,
+        disp: disp as i64,
+    }
+}
+
+/// The same of an entry that may be missing.
 fn moved(entry: Option<Entry>, offset: i128) -> Option<Entry>
     requires { IfSome entry (λ e. FitsDisp (e.disp +ℤ offset)) }
     ensures { result ≡ option_map (shift_entry offset) entry }
 {
     match entry {
         None => None,
-        Some(entry) => {
-            let disp = i128::from(entry.disp) + offset;
-            Some(Entry {
-                kind: entry.kind,
-                disp: disp as i64,
-            })
-        }
+        Some(entry) => Some(further(entry, offset)),
     }
 }
 

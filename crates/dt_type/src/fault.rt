@@ -14,3 +14,32 @@ pub enum CtorFault {
     #[error("memory ran out")]
     NoMemory,
 }
+
+/// Why a datatype isn't listed.
+#[derive(Clone, Copy, Debug, PartialEq, Eq, Error)]
+pub enum FlattenFault {
+    #[error("the typemap has more entries than may be listed")]
+    TooMany,
+    #[error("memory ran out")]
+    NoMemory,
+}
+
+/// Why a datatype has no contents.
+#[derive(Clone, Copy, Debug, PartialEq, Eq, Error)]
+pub enum ContentsFault {
+    #[error("the datatype is basic")]
+    Named,
+    #[error("memory ran out")]
+    NoMemory,
+}
+
+/// Why a datatype has no old type of that number.
+#[derive(Clone, Copy, Debug, PartialEq, Eq, Error)]
+pub enum ChildFault {
+    #[error("the datatype is basic")]
+    Named,
+    #[error("the datatype has no old type of that number")]
+    NoSuchChild,
+    #[error("memory ran out")]
+    NoMemory,
+}

@@ -2,10 +2,11 @@
 ghost use Rattle.std.specs.Prelude.{◌≡◌, ◌+◌, ◌*◌, ◌^◌, ◌<◌, ◌+ℤ◌, ◌*ℤ◌, pos, nat_abs};
 ghost use Rattle.std.specs.List.{AllByRecursion};
 ghost use Rattle.dt_map.specs.Placing.{joined_marks};
+ghost use Rattle.dt_map.specs.Span.{reach_of, stretched as stretched_by};
 ghost use Rattle.dt_type.specs.Conditions.{IsFactor, AreTurns, AreNested, IsSpot};
 ghost use Rattle.dt_type.specs.Shape.{row_offsets, turn_offsets, grid_offsets, spot_offsets};
 ghost use Rattle.dt_type.specs.Reach as spec;
-ghost use Rattle.dt_type.specs.Span.{reach_of, stretched as stretched_by, IsNear};
+ghost use Rattle.dt_type.specs.Span.{IsNear};
 
 use crate::shape::{Spot, Turns};
 use std::marker::Model;
@@ -75,7 +76,6 @@ pub(crate) fn along(first: i128, times: u64, step: i128) -> i128
 }
 
 /// The span of copies in a row.
-#[tactic(auto, using(crate::proofs::Rows::row_reach))]
 pub(crate) fn row(first: i128, copies: u64, step: i128) -> Option<Span>
     requires step { IsFactor step }
     requires near { nat_abs first + copies * 2 ^ 93 < 2 ^ 126 }

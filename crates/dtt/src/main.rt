@@ -3,6 +3,8 @@
 
 mod call;
 mod lines;
+#[cfg(test)]
+mod rows;
 mod status;
 #[cfg(test)]
 mod tests;

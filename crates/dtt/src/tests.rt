@@ -4,6 +4,19 @@ use dt_base::{MemSink, MemSource};
 use std::alloc::Global;
 use std::test::Fail;
 
+/// The exit status of a run of a script without faults, and what it wrote.
+pub(crate) fn replies(alloc: Global, script: &[u8]) -> Result<(u8, Vec<u8>), Fail> {
+    let outside = Outside {
+        word: "run",
+        input: script,
+        most: 65_536,
+        failing_reads: &[],
+        failing_writes: &[],
+    };
+    let (status, wrote, _) = ended(alloc, &outside)?;
+    Ok((status, wrote))
+}
+
 /// What a run is given: its words, its input, and the numbers of the reads and writes that fail. Reads and writes move
 /// at most `most` bytes.
 #[derive(Drop)]
@@ -28,7 +41,7 @@ fn ended(alloc: Global, outside: &Outside<'_>) -> Result<(u8, Vec<u8>, usize), F
         Vec::from_slice(alloc, outside.failing_reads)?,
     );
     let fail = Vec::from_slice(alloc, outside.failing_writes)?;
-    let mut sink = MemSink::new(alloc, 4096, most, fail).map_err(|_| Fail::from("memory"))?;
+    let mut sink = MemSink::new(alloc, 8192, most, fail).map_err(|_| Fail::from("memory"))?;
     let status = dtt(alloc, &words, &mut source, &mut sink) as u8;
     Ok((
         status,
@@ -43,7 +56,7 @@ const FIRST_TEXT: &[u8] = b"ok\nok\nbytes 8 0001020308090a0b\n";
 
 const NEGATIVE: &[u8] =
     b"type w = hvector 2 1 -4 MPI_INT\nbuffer b count 16\nbytes native 1 w b 4\n\
-bytes native 1 w b 0\ntype x = hvector 65 1 8 MPI_INT\n";
+bytes native 1 w b 0\ntype x = hvector 65 1 8\n";
 
 const NEGATIVE_TEXT: &[u8] =
     b"ok\nok\nbytes 8 0405060700010203\nrefused 15 outside\nrefused 1 syntax\n";
@@ -72,7 +85,7 @@ bytes native 1 MPI_INT b 0\r",
         // No copies lie anywhere, unknown names are told before what lies outside, and types and buffers have names apart.
         (
             b"buffer b count 0\nbytes native 0 MPI_INT b -9223372036854775808\nbytes native 1 b b 0\n\
-bytes native 1 MPI_INT c 0\nbytes native 1 MPI_BYTE b 0\nbytes native 1 MPI_INT b 0\n",
+bytes native 1 MPI_INT c 0\nbytes external 1 MPI_BYTE b 0\nbytes native 1 MPI_INT b 0\n",
             1,
             b"ok\nbytes 0 -\nrefused 2 unknown name\nrefused 2 unknown name\nrefused 1 syntax\nrefused 15 outside\n",
         ),

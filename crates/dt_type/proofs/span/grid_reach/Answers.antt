@@ -1,11 +1,12 @@
 use Rattle.std.proofs.Common.{◌≡◌, ◌∙◌, sym, ap, subst, take, get_or, pos}
 use Rattle.std.proofs.lemmas.List.{take_all}
+use Rattle.dt_map.specs.Span.{reach_of}
 use Rattle.dt_type.specs.declared.shape.Turns.{Turns}
 use Rattle.dt_type.specs.declared.span.Reach.{Reach}
 use Rattle.dt_type.specs.Conditions.{AreTurns}
 use Rattle.dt_type.specs.Reach.{nested, reach}
 use Rattle.dt_type.specs.Shape.{grid_offsets}
-use Rattle.dt_type.specs.Span.{reach_of, IsNear}
+use Rattle.dt_type.specs.Span.{IsNear}
 use Rattle.dt_type.proofs.GridNear.{grid_whole_near}
 use Rattle.dt_type.proofs.Near.{all_at, grid_near, turns_near}
 use Rattle.dt_type.proofs.Reaches.{grid-step, reach-turns}

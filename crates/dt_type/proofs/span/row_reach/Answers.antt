@@ -1,6 +1,7 @@
 use Rattle.std.proofs.Common.{◌≡◌, arith, subst}
+use Rattle.dt_map.specs.Span.{reach_of}
 use Rattle.dt_type.specs.Shape.{row_offsets}
-use Rattle.dt_type.specs.Span.{reach_of, IsNear}
+use Rattle.dt_type.specs.Span.{IsNear}
 use Rattle.dt_type.proofs.Near.{row_near}
 use Rattle.dt_type.proofs.Products.{factor_back}
 use Rattle.dt_type.proofs.Reaches.{reach-row}

@@ -1,0 +1,10 @@
+pub mod Axes
+pub mod Grids
+pub mod Lists
+pub mod Nesting
+pub mod Numbers
+pub mod Places
+pub mod Range
+pub mod Rounds
+pub mod Shapes
+pub mod Wrapping

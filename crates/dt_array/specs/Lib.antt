@@ -1,0 +1,6 @@
+pub mod Array
+pub mod Dealt
+pub mod Indices
+pub mod Laws
+pub mod Nest
+pub mod Nested

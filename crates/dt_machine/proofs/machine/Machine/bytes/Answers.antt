@@ -1,0 +1,37 @@
+use Rattle.std.proofs.Common.{refl, ap, ◌∙◌, ◌≡◌}
+use Rattle.std.proofs.lemmas.Int.{to_z-of_z}
+use Rattle.std.specs.Int.{w32, w64}
+use Rattle.dt_map.specs.Packed.{packed}
+use Rattle.dt_reply.specs.Reply.{Packed, text_of}
+use Rattle.dt_script.specs.declared.command.Command.TheVariants.{Bytes}
+use Rattle.dt_machine.specs.Refusal.{elements_of}
+use Rattle.dt_machine.proofs.Operations.{bytes_allowed, bytes_withheld}
+use Rattle.dt_machine.proofs.Outcomes.{told_outcome}
+use Rattle.dt_machine.proofs.machine.Machine.bytes.Goals as goal
+
+pub returns-in-Some-refused_operation : goal.returns-in-Some-refused_operation
+returns-in-Some-refused_operation c =
+    bytes_withheld c.args.self.now c.args.rep c.args.count c.args.ty.now c.args.buffer.now c.args.origin c.in-Ok.kept c.in-Some.buffer.now
+    c.in-Ok.ensures c.in-Some.ensures c.in-Some-refused_operation.refusal
+    (simp (to_z-of_z w32 c.args.count c.ranges.count, to_z-of_z w64 c.args.origin c.ranges.origin) at c.in-Some-refused_operation.ensures)
+
+pub packed_bytes-requires : goal.packed_bytes-requires
+packed_bytes-requires c =
+    let origin = to_z-of_z w64 c.args.origin c.ranges.origin in
+    let printed = simp (to_z-of_z w32 c.args.count c.ranges.count, origin) at c.in_default-refused_operation.ensures in
+    let copies = simp (to_z-of_z w32 c.args.count c.ranges.count) at c.unsigned_abs-copies.ensures.value in
+    simp (copies, origin) printed.inside
+
+pub returns : goal.returns
+returns c =
+    let origin = to_z-of_z w64 c.args.origin c.ranges.origin in
+    let printed = simp (to_z-of_z w32 c.args.count c.ranges.count, origin) at c.in_default-refused_operation.ensures in
+    let copies = simp (to_z-of_z w32 c.args.count c.ranges.count) at c.unsigned_abs-copies.ensures.value in
+    let kept = c.in-Ok.kept in
+    let held = c.in-Some.buffer.now in
+    let es = elements_of kept c.args.count c.args.origin in
+    let bytes : c.in_ok-bytes.bytes.items ≡ packed c.args.rep es held = simp (copies, origin) at c.in_ok-bytes.ensures in
+    let line = c.in_ok-line.ensures ∙ ap (λ b. text_of (Packed b)) (c.deref.ensures.value ∙ bytes) in
+    told_outcome c.args.self.now (Bytes c.args.rep c.args.count c.args.ty.now c.args.buffer.now c.args.origin) (Packed (packed c.args.rep es held)) c.in_ok-line.line.items c.told.result
+    (bytes_allowed c.args.self.now c.args.rep c.args.count c.args.ty.now c.args.buffer.now c.args.origin kept held c.in-Ok.ensures c.in-Some.ensures printed)
+    (kept, held, c.in-Ok.ensures, c.in-Some.ensures, refl, refl) refl c.told.ensures line

@@ -1,0 +1,12 @@
+use Rattle.std.proofs.Common.{refl}
+use Rattle.dt_reply.specs.Reply.{Shown}
+use Rattle.dt_script.specs.declared.command.Command.TheVariants.{Show}
+use Rattle.dt_machine.proofs.Operations.{show_allowed}
+use Rattle.dt_machine.proofs.Outcomes.{told_outcome}
+use Rattle.dt_machine.proofs.machine.Machine.show.Goals as goal
+
+pub returns : goal.returns
+returns c =
+    let bytes = c.in-Some.bytes.now in
+    told_outcome c.args.self.now (Show c.args.buffer.now) (Shown bytes) c.in_ok-line.line.items c.told.result
+    (show_allowed c.args.self.now c.args.buffer.now bytes c.in-Some.ensures) (bytes, c.in-Some.ensures, refl, refl) refl c.told.ensures c.in_ok-line.ensures

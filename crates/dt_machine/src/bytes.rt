@@ -1,0 +1,68 @@
+//! `bytes REP COUNT TYPE BUFFER ORIGIN`
+ghost use Rattle.std.specs.Prelude.{MatchOption};
+ghost use Rattle.dt_machine.specs.Operation.{IsPrinted, IsWithheld};
+ghost use Rattle.dt_machine.specs.Outcome.{ComesTo};
+ghost use Rattle.dt_script.specs.declared.command.Command.TheVariants.{Bytes};
+
+use crate::machine::Machine;
+use crate::outcome::{Outcome, Stop, told};
+use dt_elems::{packed_bytes, packed_size, span_inside};
+use dt_kinds::Rep;
+use dt_reply::{Refusal, packed_line};
+use dt_script::Name;
+use dt_type::Datatype;
+
+/// So many packed bytes `bytes` prints.
+const MOST_PACKED: u128 = 16_777_216;
+
+/// Why the packed bytes of an operation aren't printed, by its numbers, its type and the length of its buffer.
+fn refused_operation(
+    rep: Rep,
+    count: i32,
+    ty: &Datatype,
+    len: usize,
+    origin: i64,
+) -> Option<Refusal>
+    ensures { MatchOption result (IsPrinted rep count ty.now len origin) (IsWithheld rep count ty.now len origin) }
+{
+    if count < 0 {
+        return Some(Refusal::BadArgument);
+    }
+    let copies = count.unsigned_abs();
+    if !span_inside(ty, copies, origin, len) {
+        Some(Refusal::Outside)
+    } else if packed_size(ty, rep, copies) > MOST_PACKED {
+        Some(Refusal::TooLarge)
+    } else {
+        None
+    }
+}
+
+impl Machine {
+    /// `bytes REP COUNT TYPE BUFFER ORIGIN`
+    pub(crate) fn bytes(
+        &self,
+        rep: Rep,
+        count: i32,
+        ty: &Name,
+        buffer: &Name,
+        origin: i64,
+    ) -> Result<Outcome, Stop>
+        ensures { ComesTo self.now (Bytes rep count ty.now buffer.now origin) result }
+    {
+        let Some(buffer) = self.buffer(buffer) else {
+            return Err(Stop::Refused(Refusal::UnknownName));
+        };
+        let kept = match self.kept(ty) {
+            Ok(kept) => kept,
+            Err(stop) => return Err(stop),
+        };
+        if let Some(refusal) = refused_operation(rep, count, &kept.ty, buffer.len(), origin) {
+            return Err(Stop::Refused(refusal));
+        }
+        let copies = count.unsigned_abs();
+        let bytes = packed_bytes(self.alloc, &kept.ty, rep, copies, origin, buffer)?;
+        let line = packed_line(self.alloc, &bytes)?;
+        Ok(told(line))
+    }
+}

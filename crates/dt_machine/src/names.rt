@@ -1,0 +1,100 @@
+//! Commands on names of types: `child NAME = TYPE INT`, `commit TYPE`, `free TYPE`.
+ghost use Rattle.std.specs.Prelude.{◌≡◌, false, is_none, MatchOption};
+ghost use Rattle.dt_machine.specs.declared.outcome.Stop.TheVariants.{Refused};
+ghost use Rattle.dt_machine.specs.Outcome.{ComesTo, IsMissing, IsFreeFor, IsTakenFor};
+ghost use Rattle.dt_machine.specs.State.{type_of};
+ghost use Rattle.dt_script.specs.declared.command.Command.TheVariants.{Child, Commit, Free};
+
+use crate::machine::{Machine, is_basic, is_left_out};
+use crate::outcome::{Change, Outcome, Stop, done};
+use crate::state::Kept;
+use dt_reply::Refusal;
+use dt_script::Name;
+use dt_type::ChildFault;
+
+impl Machine {
+    /// Why a type word stands for nothing.
+    fn missing(&self, word: &Name) -> Option<Refusal>
+        ensures { MatchOption result (is_none (type_of self.now word.now) ≡ false) (λ refusal. IsMissing self.now word.now (Refused refusal)) }
+    {
+        if self.is_unknown(word) {
+            Some(Refusal::UnknownName)
+        } else if is_left_out(word) {
+            Some(Refusal::UnsupportedKind)
+        } else {
+            None
+        }
+    }
+
+    /// `commit TYPE`
+    pub(crate) fn commit(&self, ty: &Name) -> Result<Outcome, Stop>
+        ensures { ComesTo self.now (Commit ty.now) result }
+    {
+        if let Some(refusal) = self.missing(ty) {
+            return Err(Stop::Refused(refusal));
+        }
+        if ty.is_reserved() {
+            return done(self.alloc, Change::Nothing);
+        }
+        let name = ty.copied()?;
+        done(self.alloc, Change::Commit { name })
+    }
+
+    /// `free TYPE`
+    pub(crate) fn free(&self, ty: &Name) -> Result<Outcome, Stop>
+        ensures { ComesTo self.now (Free ty.now) result }
+    {
+        if let Some(refusal) = self.missing(ty) {
+            return Err(Stop::Refused(refusal));
+        }
+        if self.is_basic(ty) {
+            return Err(Stop::Refused(Refusal::BasicType));
+        }
+        let name = ty.copied()?;
+        done(self.alloc, Change::Free { name })
+    }
+
+    /// Why no old type of a type is named, by the names alone.
+    fn refused_child(&self, name: &Name, ty: &Name) -> Option<Refusal>
+        ensures { MatchOption result (IsFreeFor self.now name.now ty.now) (λ refusal. IsTakenFor self.now name.now ty.now refusal) }
+    {
+        if self.is_unknown(ty) {
+            Some(Refusal::UnknownName)
+        } else if self.is_type_taken(name) {
+            Some(Refusal::NameTaken)
+        } else if is_left_out(ty) {
+            Some(Refusal::UnsupportedKind)
+        } else {
+            None
+        }
+    }
+
+    /// `child NAME = TYPE INT`
+    pub(crate) fn child(&self, name: &Name, ty: &Name, k: i32) -> Result<Outcome, Stop>
+        ensures { ComesTo self.now (Child name.now ty.now k) result }
+    {
+        if let Some(refusal) = self.refused_child(name, ty) {
+            return Err(Stop::Refused(refusal));
+        }
+        let kept = match self.kept(ty) {
+            Ok(kept) => kept,
+            Err(stop) => return Err(stop),
+        };
+        let child = match kept.ty.child(k) {
+            Ok(child) => child,
+            Err(ChildFault::Named) => return Err(Stop::Refused(Refusal::NamedType)),
+            Err(ChildFault::NoSuchChild) => return Err(Stop::Refused(Refusal::NoSuchChild)),
+            Err(ChildFault::NoMemory) => return Err(Stop::NoMemory),
+        };
+        if self.is_full() {
+            return Err(Stop::Refused(Refusal::TooManyNames));
+        }
+        let name = name.copied()?;
+        let committed = is_basic(&child);
+        let kept = Kept {
+            ty: child,
+            committed,
+        };
+        done(self.alloc, Change::AddType { name, kept })
+    }
+}

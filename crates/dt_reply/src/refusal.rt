@@ -1,0 +1,85 @@
+ghost use Rattle.std.specs.Prelude.{◌≡◌};
+ghost use Rattle.dt_reply.specs.Refusal.{number_of, word_of};
+
+/// Why a line is refused.
+#[derive(Clone, Copy)]
+pub enum Refusal {
+    /// The line is in no line form.
+    Syntax,
+    /// A type or a buffer that is used doesn't stand, or a name of MPI that is used names no basic type.
+    UnknownName,
+    /// The name to be made stands already, or would be a type's and begins as those of MPI do.
+    NameTaken,
+    /// A basic type that is used is left out by this library, such as `MPI_DOUBLE`.
+    UnsupportedKind,
+    /// A basic type would be freed.
+    BasicType,
+    /// The contents, or an old type, of a basic type is asked for.
+    NamedType,
+    /// The type has no old type of that number.
+    NoSuchChild,
+    /// A count, a length or another argument is outside what MPI allows, such as a negative count.
+    BadArgument,
+    /// A bound or the size of the type to be made is out of range.
+    Overflow,
+    /// The type to be made would have too many levels.
+    TooDeep,
+    /// The type to be made would list too many blocks, displacements and parts.
+    TooHeavy,
+    /// As many types, or buffers, as may stand do stand.
+    TooManyNames,
+    /// The typemap to be listed has more entries than a reply may list.
+    TooManyEntries,
+    /// Some byte of some element lies outside the buffer.
+    Outside,
+    /// A buffer, all buffers together or the packed bytes would have too many bytes.
+    TooLarge,
+}
+
+impl Refusal {
+    /// The number by which the refusal is printed. Of several, the least is answered.
+    pub fn number(self) -> u32
+        ensures { result ≡ number_of self }
+    {
+        match self {
+            Refusal::Syntax => 1,
+            Refusal::UnknownName => 2,
+            Refusal::NameTaken => 3,
+            Refusal::UnsupportedKind => 4,
+            Refusal::BasicType => 6,
+            Refusal::NamedType => 7,
+            Refusal::NoSuchChild => 8,
+            Refusal::BadArgument => 9,
+            Refusal::Overflow => 10,
+            Refusal::TooDeep => 11,
+            Refusal::TooHeavy => 12,
+            Refusal::TooManyNames => 13,
+            Refusal::TooManyEntries => 14,
+            Refusal::Outside => 15,
+            Refusal::TooLarge => 17,
+        }
+    }
+
+    /// The words that follow the number.
+    pub fn word(self) -> &'static str
+        ensures { result.now ≡ word_of self }
+    {
+        match self {
+            Refusal::Syntax => "syntax",
+            Refusal::UnknownName => "unknown name",
+            Refusal::NameTaken => "name taken",
+            Refusal::UnsupportedKind => "unsupported kind",
+            Refusal::BasicType => "basic type",
+            Refusal::NamedType => "named type",
+            Refusal::NoSuchChild => "no such child",
+            Refusal::BadArgument => "bad argument",
+            Refusal::Overflow => "overflow",
+            Refusal::TooDeep => "too deep",
+            Refusal::TooHeavy => "too heavy",
+            Refusal::TooManyNames => "too many names",
+            Refusal::TooManyEntries => "too many entries",
+            Refusal::Outside => "outside",
+            Refusal::TooLarge => "too large",
+        }
+    }
+}

@@ -1,0 +1,121 @@
+//! The lines that are replied. Each is made in new memory, and `NoMemory` is answered where that runs out.
+ghost use Rattle.std.specs.Prelude.{◌≡◌, IfOk};
+ghost use Rattle.dt_reply.specs.Reply.{Contained, Described, Done, Listed, Packed, Refused, Shown, Told, text_of, bytes_words, line_of};
+
+use crate::arguments::{push_envelope, push_listed, push_types};
+use crate::refusal::Refusal;
+use crate::text::{
+    push_committed, push_entries, push_extent, push_hex, push_marks, push_number, push_sizes,
+    push_true_bounds, push_word,
+};
+use dt_kinds::NoMemory;
+use dt_map::{Bounds, FlatMap};
+use dt_type::{Contents, Envelope};
+use std::alloc::Global;
+
+/// The reply `ok`, with its line feed.
+pub const OK: [u8; 3] = *b"ok\n";
+
+/// The line `ok`.
+pub fn ok_line() -> &'static [u8]
+    ensures { result.now ≡ text_of Done }
+{
+    &OK
+}
+
+/// `refused NUMBER WORD`, where the word may be several, as in `refused 12 too heavy`.
+#[tactic(auto, unfolding(crate::specs::Reply::line_of))]
+pub fn refusal_line(alloc: Global, refusal: Refusal) -> Result<Vec<u8>, NoMemory>
+    ensures { IfOk result (λ line. line.items ≡ text_of (Refused refusal)) }
+{
+    let mut line = Vec::from_slice(alloc, b"refused")?;
+    push_number(&mut line, refusal.number())?;
+    push_word(&mut line, refusal.word().as_bytes())?;
+    line.extend_from_slice(b"\n")?;
+    Ok(line)
+}
+
+/// `bytes LENGTH HEX`: packed bytes, as in `bytes 2 0a0b`, with `-` for none.
+pub fn packed_line(alloc: Global, bytes: &[u8]) -> Result<Vec<u8>, NoMemory>
+    ensures { IfOk result (λ line. line.items ≡ text_of (Packed bytes.now)) }
+{
+    bytes_line(alloc, b"bytes", bytes)
+}
+
+/// `show LENGTH HEX`: the bytes of a buffer, with `-` for none.
+pub fn shown_line(alloc: Global, bytes: &[u8]) -> Result<Vec<u8>, NoMemory>
+    ensures { IfOk result (λ line. line.items ≡ text_of (Shown bytes.now)) }
+{
+    bytes_line(alloc, b"show", bytes)
+}
+
+/// A word, how many bytes there are, and the bytes.
+#[tactic(auto, unfolding(crate::specs::Reply::line_of))]
+fn bytes_line(alloc: Global, first: &[u8], bytes: &[u8]) -> Result<Vec<u8>, NoMemory>
+    ensures { IfOk result (λ line. line.items ≡ line_of first.now (bytes_words bytes.now)) }
+{
+    let room = bytes.len().saturating_mul(2).saturating_add(32);
+    let mut line = Vec::with_capacity(alloc, room)?;
+    line.extend_from_slice(first)?;
+    push_number(&mut line, bytes.len())?;
+    push_hex(&mut line, bytes)?;
+    line.extend_from_slice(b"\n")?;
+    Ok(line)
+}
+
+/// `info size S ext E elements K align A lb L ub U extent X true_lb P true_ub Q committed yes`, or `no` as last word:
+/// sizes and bounds in bytes, and the extent from the lower to the upper bound, which may be negative (MPI 4.1,
+/// sections 5.1.5 to 5.1.8).
+#[tactic(auto, unfolding(crate::specs::Reply::line_of, crate::specs::Reply::info_words))]
+pub fn info_line(alloc: Global, bounds: Bounds, committed: bool) -> Result<Vec<u8>, NoMemory>
+    ensures { IfOk result (λ line. line.items ≡ text_of (Told bounds committed)) }
+{
+    let mut line = Vec::from_slice(alloc, b"info")?;
+    push_sizes(&mut line, bounds)?;
+    push_extent(&mut line, bounds)?;
+    push_true_bounds(&mut line, bounds)?;
+    push_committed(&mut line, committed)?;
+    line.extend_from_slice(b"\n")?;
+    Ok(line)
+}
+
+/// `map NUMBER marks none` or `map NUMBER marks LB UB`, and then ` KIND@DISP` for each entry of the typemap (MPI 4.1,
+/// section 5.1), in order: marks and displacements in bytes.
+#[tactic(auto, unfolding(crate::specs::Reply::line_of, crate::specs::Reply::map_words))]
+pub fn map_line(alloc: Global, map: &FlatMap) -> Result<Vec<u8>, NoMemory>
+    ensures { IfOk result (λ line. line.items ≡ text_of (Listed map.now)) }
+{
+    let mut line = Vec::from_slice(alloc, b"map")?;
+    push_number(&mut line, map.entries().len())?;
+    push_word(&mut line, b"marks")?;
+    push_marks(&mut line, map.marks())?;
+    push_entries(&mut line, map.entries())?;
+    line.extend_from_slice(b"\n")?;
+    Ok(line)
+}
+
+/// `envelope COMBINER integers I addresses A types T`: the constructor, and how many integers, addresses and types its arguments
+/// have (MPI 4.1, section 5.1.13, `MPI_Type_get_envelope`), as in `envelope vector integers 3 addresses 0 types 1`.
+#[tactic(auto, unfolding(crate::specs::Reply::line_of))]
+pub fn envelope_line(alloc: Global, envelope: Envelope) -> Result<Vec<u8>, NoMemory>
+    ensures { IfOk result (λ line. line.items ≡ text_of (Described envelope)) }
+{
+    let mut line = Vec::from_slice(alloc, b"envelope")?;
+    push_envelope(&mut line, envelope)?;
+    line.extend_from_slice(b"\n")?;
+    Ok(line)
+}
+
+/// `contents integers I` and the integers, `addresses A` and the addresses in bytes, and `types T` and the old types: the kind of a
+/// basic one, and the constructor of another between `<` and `>` (MPI 4.1, section 5.1.13, `MPI_Type_get_contents`).
+#[tactic(auto, unfolding(crate::specs::Reply::line_of, crate::specs::Reply::contents_words))]
+pub fn contents_line(alloc: Global, contents: &Contents) -> Result<Vec<u8>, NoMemory>
+    ensures { IfOk result (λ line. line.items ≡ text_of (Contained contents.now)) }
+{
+    let mut line = Vec::from_slice(alloc, b"contents")?;
+    push_listed(&mut line, b"integers", contents.integers.as_slice())?;
+    push_listed(&mut line, b"addresses", contents.addresses.as_slice())?;
+    push_types(&mut line, contents.types.as_slice())?;
+    line.extend_from_slice(b"\n")?;
+    Ok(line)
+}
