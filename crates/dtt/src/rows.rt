@@ -1,5 +1,8 @@
 //! Scripts and their replies, worked by hand from the rules.
 use crate::tests::replies;
+use dt_kinds::Kind;
+use dt_machine::{Found, Machine};
+use dt_script::parse_line;
 use std::fmt::Write;
 use std::test::Fail;
 
@@ -175,8 +178,9 @@ fn greatest_depth(rt: HostRuntime) -> Result<(), Fail> {
     let alloc = rt.alloc();
     let mut script = String::from_str(alloc, "type t1 = dup MPI_INT\n")?;
     let mut text = String::from_str(alloc, "ok\n")?;
-    for level in 2..65 {
-        write!(script, "type t{level} = dup t{}\n", level - 1)?;
+    for below in 1..64u32 {
+        let level = below + 1;
+        write!(script, "type t{level} = dup t{below}\n")?;
         text.push_str(if level < 64 {
             "ok\n"
         } else {
@@ -194,8 +198,8 @@ fn greatest_weight(rt: HostRuntime) -> Result<(), Fail> {
     let alloc = rt.alloc();
     let mut script = String::from_str(alloc, "type s1 = struct 1@0@MPI_BYTE 1@1@MPI_BYTE\n")?;
     let mut text = String::from_str(alloc, "ok\n")?;
-    for level in 2..16 {
-        let below = level - 1;
+    for below in 1..15u32 {
+        let level = below + 1;
         write!(script, "type s{level} = struct 1@0@s{below} 1@0@s{below}\n")?;
         text.push_str(if level < 15 {
             "ok\n"
@@ -234,5 +238,39 @@ fn most_names(rt: HostRuntime) -> Result<(), Fail> {
     let (status, wrote) = replies(alloc, script.as_bytes())?;
     assert_eq!(rt; status, 1);
     assert_eq!(rt; wrote.as_slice(), text.as_bytes());
+    Ok(())
+}
+
+/// The calls of the machine beside `line`.
+#[test]
+fn machine(rt: HostRuntime) -> Result<(), Fail> {
+    let alloc = rt.alloc();
+    let mut machine = Machine::new(alloc);
+    let mut out = Vec::new(alloc);
+    assert!(rt; machine.line(b"type v = contiguous 2 MPI_INT", &mut out)?);
+    assert!(rt; !machine.line(b"type v = contiguous 2 MPI_INT", &mut out)?);
+    assert!(rt; machine.line(b"child x = v 0", &mut out)?);
+    let command = parse_line(alloc, b"map v").map_err(|_| Fail::from("syntax"))?;
+    let Some(command) = command else {
+        return Err(Fail::from("no command"));
+    };
+    assert!(rt; machine.step(&command, &mut out)?);
+    assert_eq!(rt;
+        out.as_slice(),
+        b"ok\nrefused 3 name taken\nok\nmap 2 marks none MPI_INT@0 MPI_INT@4\n".as_slice()
+    );
+    assert_eq!(rt; machine.totals().commands, 3);
+    assert!(rt;
+        matches!(machine.find_type(b"v"), Ok(Found::Derived(ty)) if ty.bounds().elements == 2)
+    );
+    assert!(rt; matches!(machine.find_type(b"x"), Ok(Found::Basic(Kind::Int))));
+    assert!(rt;
+        matches!(
+            machine.find_type(b"MPI_LONG_LONG_INT"),
+            Ok(Found::Basic(Kind::LongLong))
+        )
+    );
+    assert!(rt; matches!(machine.find_type(b"w"), Err(2)));
+    assert!(rt; matches!(machine.find_type(b"MPI_FLOAT"), Err(4)));
     Ok(())
 }
