@@ -1,3 +1,4 @@
+pub mod Bytes
 pub mod Displacement
 pub mod Image
 pub mod Kind

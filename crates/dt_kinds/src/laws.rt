@@ -1,4 +1,5 @@
 //! Laws of the kind table, stated over its definitions. The functions do nothing.
+ghost use Rattle.dt_kinds.specs.Bytes.{NumbersKeepBytes};
 ghost use Rattle.dt_kinds.specs.Laws.{NamesAreRead, LeftOutIsUnsupported, NamesDiffer, SizesArePowers, ExternalIsNoLarger};
 
 /// A word is read as a kind exactly where it is the kind's name, or `MPI_LONG_LONG_INT` for `MPI_LONG_LONG`.
@@ -25,4 +26,9 @@ pub fn sizes_are_powers()
 /// No element has more bytes in external32 than in memory.
 pub fn external_is_no_larger()
     ensures { ExternalIsNoLarger }
+{}
+
+/// So many bytes, read as one number and written again in the same order, are those bytes, the highest first or the lowest first.
+pub fn numbers_keep_bytes()
+    ensures { NumbersKeepBytes }
 {}
