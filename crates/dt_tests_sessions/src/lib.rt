@@ -1,0 +1,6 @@
+//! The tests of what moves elements: their images. Their expected values come from MPI 4.1 and from this project's documents,
+//! never from a run of the code.
+#![tactic(auto)]
+
+#[cfg(test)]
+mod images;
