@@ -5,7 +5,7 @@ use Rattle.std.proofs.Common.{refl, sym, ap, subst, ◌∙◌, arith, to_z, of_z
 use Rattle.std.proofs.lemmas.List.{length-reverse}
 use Rattle.std.proofs.lemmas.List.Folds.{flat_map-map}
 use Rattle.dt_kinds.specs.Displacement.{FitsDisp}
-use Rattle.dt_kinds.proofs.Displacement.{same_disp}
+use Rattle.dt_kinds.proofs.Displacements.{same_disp}
 use Rattle.dt_map.specs.declared.typemap.Entry.{Entry}
 use Rattle.dt_map.specs.Bounds.{extent_of}
 use Rattle.dt_map.specs.Constructors.{copies_at}

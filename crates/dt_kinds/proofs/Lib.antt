@@ -1,2 +1,2 @@
-pub mod Displacement
+pub mod Displacements
 pub mod Table

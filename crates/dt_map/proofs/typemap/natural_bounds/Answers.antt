@@ -3,7 +3,7 @@ use Rattle.std.proofs.lemmas.Int.{ints, to_z-of_z}
 use Rattle.std.proofs.lemmas.List.Sums.{sum_by_more, sum_by_more_le}
 use Rattle.std.proofs.lemmas.List.{take_all}
 use Rattle.dt_kinds.specs.declared.kind.Kind.TheVariants.{Byte}
-use Rattle.dt_kinds.proofs.Displacement.{same_disp}
+use Rattle.dt_kinds.proofs.Displacements.{same_disp}
 use mir.Val.{SFits}
 use Rattle.dt_kinds.specs.Kind.{native_size, external_size}
 use Rattle.dt_map.specs.declared.typemap.Entry.{Entry}
