@@ -10,7 +10,7 @@ use Rattle.dt_type.specs.declared.fault.CtorFault.{CtorFault}
 use Rattle.dt_type.specs.declared.fault.CtorFault.TheVariants.{BadArgument, Overflow, TooDeep, TooHeavy, NoMemory}
 use Rattle.dt_type.specs.declared.form.Order.{Order}
 use Rattle.dt_type.specs.declared.form.Order.TheVariants.{C, Fortran}
-use Rattle.dt_type.specs.declared.shape.Turns.{Turns}
+use Rattle.dt_offsets.specs.declared.turns.Turns.{Turns}
 use Rattle.dt_type.specs.Arrays.{product}
 use Rattle.dt_array.specs.declared.indices.Indices.{Indices}
 use Rattle.dt_array.specs.declared.nest.Nest.{Nest}

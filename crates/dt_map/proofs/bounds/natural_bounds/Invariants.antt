@@ -1,7 +1,7 @@
 use Rattle.std.proofs.Common.{◌≡◌, map, take}
 use Rattle.dt_map.specs.Bounds.{size_of, external_size_of, alignment, end_of}
 use Rattle.dt_map.specs.Numbers.{least, greatest}
-use Rattle.dt_map.proofs.typemap.natural_bounds.Given as goal
+use Rattle.dt_map.proofs.bounds.natural_bounds.Given as goal
 
 abbrev pub invariant-entries : goal.invariant-entries
 invariant-entries l = record {

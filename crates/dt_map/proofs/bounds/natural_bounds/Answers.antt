@@ -6,10 +6,10 @@ use Rattle.dt_kinds.specs.declared.kind.Kind.TheVariants.{Byte}
 use Rattle.dt_kinds.proofs.Displacements.{same_disp}
 use mir.Val.{SFits}
 use Rattle.dt_kinds.specs.Kind.{native_size, external_size}
-use Rattle.dt_map.specs.declared.typemap.Entry.{Entry}
+use Rattle.dt_map.specs.declared.entry.Entry.{Entry}
 use Rattle.dt_map.specs.Bounds.{end_of}
-use Rattle.dt_map.proofs.Extremes.{least_more, greatest_more, alignment_more, size_of-le, external_size_of-le, true_lb-fits, found_true_lb, found_true_ub, true_ub-fits, true_bounds_ordered, alignment-le}
-use Rattle.dt_map.proofs.typemap.natural_bounds.Goals as goal
+use Rattle.dt_map.proofs.Extremes.{least_more, greatest_more, alignment_more, size_of-le, external_size_of-le, true_lb-fits, found_true_lb, found_true_ub, true_ub-fits}
+use Rattle.dt_map.proofs.bounds.natural_bounds.Goals as goal
 
 abbrev none : Entry
 none = record { kind = Byte; disp = pos 0 }
@@ -42,26 +42,17 @@ entries-preserved c = record {
       cc;
 }
 
-pub rounded_up-requires-clause-low : goal.rounded_up-requires-clause-low
-rounded_up-requires-clause-low c =
+pub natural_end-requires-clause-low : goal.natural_end-requires-clause-low
+natural_end-requires-clause-low c =
     let low = found_true_lb c.args.entries.now c.entries.e-index c.entries.low c.unwrap_or-true_lb.result c.entries-test.false c.entries.invariant.low c.unwrap_or-true_lb.ensures in
     let fit = true_lb-fits c.args.entries.now c.requires in
     (omega (arith, ints, low, fit.0, fit.1), omega (arith, ints, low, fit.0, fit.1))
 
-pub rounded_up-requires-clause-high : goal.rounded_up-requires-clause-high
-rounded_up-requires-clause-high c =
+pub natural_end-requires-clause-high : goal.natural_end-requires-clause-high
+natural_end-requires-clause-high c =
     let high = found_true_ub c.args.entries.now c.entries.e-index c.entries.high c.unwrap_or-true_ub.result c.entries-test.false c.entries.invariant.high c.unwrap_or-true_ub.ensures in
     let fit = true_ub-fits c.args.entries.now c.requires in
     (omega (arith, ints, high, fit.0, fit.1), omega (arith, ints, high, fit.0, fit.1))
-
-pub rounded_up-requires-clause-ordered : goal.rounded_up-requires-clause-ordered
-rounded_up-requires-clause-ordered c =
-    let low = found_true_lb c.args.entries.now c.entries.e-index c.entries.low c.unwrap_or-true_lb.result c.entries-test.false c.entries.invariant.low c.unwrap_or-true_lb.ensures in
-    let high = found_true_ub c.args.entries.now c.entries.e-index c.entries.high c.unwrap_or-true_ub.result c.entries-test.false c.entries.invariant.high c.unwrap_or-true_ub.ensures in
-    omega (arith, ints, low, high, true_bounds_ordered c.args.entries.now)
-
-pub rounded_up-requires-clause-few : goal.rounded_up-requires-clause-few
-rounded_up-requires-clause-few c = omega (arith, alignment-le (take c.entries.e-index c.args.entries.now))
 
 pub returns : goal.returns
 returns c =
@@ -70,5 +61,5 @@ returns c =
     let whole = take_all c.entries.e-index c.args.entries.now c.entries-test.false in
     let same_low = to_z-of_z w64 c.unwrap_or-true_lb.result (record { sfits = c.unwrap_or-true_lb.type_inv }) in
     let same_high = to_z-of_z w64 c.unwrap_or-true_ub.result (record { sfits = c.unwrap_or-true_ub.type_inv }) in
-    let same_end = to_z-of_z w64 c.rounded_up.result (record { sfits = c.rounded_up.type_inv }) in
+    let same_end = to_z-of_z w64 c.natural_end.result (record { sfits = c.natural_end.type_inv }) in
     cc
