@@ -5,7 +5,7 @@ use Rattle.std.proofs.Common.{refl, sym, ap, subst, ◌∙◌, arith, inl, inr}
 use Rattle.std.proofs.lemmas.Bool.{cases_lt}
 use Rattle.std.proofs.Math.Nat.{mod-eq_of_lt, div-eq_of_lt, mul-le-mul_left, mul-le-mul_right}
 use Rattle.std.proofs.lemmas.Nat.{div-add-mod'}
-use Rattle.dt_map.specs.Numbers.{below}
+use Rattle.dt_offsets.specs.Offsets.{below}
 use Rattle.dt_type.specs.declared.form.Dist.TheVariants.{Whole}
 use Rattle.dt_type.specs.declared.form.DistDim.{DistDim}
 use Rattle.dt_type.specs.Arrays.{Axis, dealt, darg_from}

@@ -13,8 +13,8 @@ use Rattle.dt_type.specs.declared.form.Order.{Order}
 use Rattle.dt_type.specs.Arguments.{is_positive, takes_dist_dim, takes_darg, takes_psize, takes_arguments}
 use Rattle.dt_type.specs.Arrays.{product, coordinate, darray_axes}
 use Rattle.dt_type.specs.Form.{array}
-use Rattle.dt_type.specs.Reach.{capped}
-use Rattle.dt_type.proofs.Reaches.{capped-mul-left}
+use Rattle.dt_offsets.specs.Reach.{capped}
+use Rattle.dt_offsets.proofs.Reaches.{capped-mul-left}
 use Rattle.dt_array.specs.declared.indices.Indices.{Indices}
 use Rattle.dt_array.specs.Array.{IsArrayOf}
 use Rattle.dt_array.specs.Dealt.{axis_at}

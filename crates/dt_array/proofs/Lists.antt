@@ -4,8 +4,8 @@ use Rattle.std.specs.List.{AllByRecursion, flat_map}
 use Rattle.std.proofs.Common.{refl, sym, ap, subst, ◌∙◌, arith}
 use Rattle.std.proofs.lemmas.Grind.{reverse_onto}
 use Rattle.std.proofs.lemmas.List.{map-append}
-use Rattle.dt_map.specs.Numbers.{below}
-use Rattle.dt_type.proofs.Near.{all_append}
+use Rattle.dt_offsets.specs.Offsets.{below}
+use Rattle.dt_offsets.proofs.NearNumbers.{all_append}
 
 pub same_map : {X Y : Type 0} (f g : X → Y) → ((x : X) → f x ≡ g x) → (xs : List X) → map f xs ≡ map g xs
 same_map f g same [] = refl

@@ -8,7 +8,7 @@ use Rattle.std.proofs.lemmas.List.Folds.{flat_map-map}
 use Rattle.std.proofs.Math.Nat.{mul_comm, mul_assoc, mul-one, mul-add}
 use Rattle.dt_type.specs.declared.form.Order.TheVariants.{C, Fortran}
 use Rattle.dt_type.specs.Arrays.{Axis, product, tuples, linear_index, chosen_places}
-use Rattle.dt_type.proofs.Lookups.{flat_map-flat_map}
+use Rattle.dt_offsets.proofs.Lookups.{flat_map-flat_map}
 use Rattle.dt_array.proofs.Lists.{same_map, same_flat_map, map-map, map-flat_map, reverse-cons}
 
 abbrev pub sizes : List Axis → List ℕ

@@ -5,12 +5,13 @@ use Rattle.std.proofs.Common.{sym, ap, subst, ◌∙◌, arith}
 use Rattle.std.proofs.lemmas.Int.{ints}
 use Rattle.std.proofs.Math.Nat.{mul-le-mul_right, mul_assoc}
 use Rattle.dt_kinds.specs.Displacement.{FitsDisp}
-use Rattle.dt_type.specs.declared.shape.Turns.{Turns}
+use Rattle.dt_offsets.specs.declared.turns.Turns.{Turns}
 use Rattle.dt_type.specs.Arrays.{product}
-use Rattle.dt_type.specs.Conditions.{IsFactor, AreTurns, AreNested}
-use Rattle.dt_type.specs.Shape.{turn_offsets, grid_offsets}
-use Rattle.dt_type.proofs.Near.{all_append}
-use Rattle.dt_type.proofs.Products.{size_of_product}
+use Rattle.dt_offsets.specs.Near.{IsFactor}
+use Rattle.dt_type.specs.Conditions.{AreShapeTurns, AreNested}
+use Rattle.dt_offsets.specs.Offsets.{turn_offsets, grid_offsets}
+use Rattle.dt_offsets.proofs.NearNumbers.{all_append}
+use Rattle.dt_offsets.proofs.Products.{size_of_product}
 use Rattle.dt_array.specs.declared.indices.Indices.{Indices}
 use Rattle.dt_array.specs.Indices.{axis_of, AreInside}
 use Rattle.dt_array.specs.Nested.{turns_by, span_by, inward}
@@ -94,7 +95,7 @@ turns_within extent (d ∷ dims) most all le =
       turns_within extent dims most all.1 (omega arith),
     )
 
-are_turns : (extent : ℤ) (dims : List Indices) → AllByRecursion AreInside dims → reach_by extent dims ≤ 1152921504606846976 → AllByRecursion AreTurns (inward extent dims)
+are_turns : (extent : ℤ) (dims : List Indices) → AllByRecursion AreInside dims → reach_by extent dims ≤ 1152921504606846976 → AllByRecursion AreShapeTurns (inward extent dims)
 are_turns extent [] all le = tt
 are_turns extent (d ∷ dims) all le =
     let unit = span_by extent dims in
@@ -123,7 +124,7 @@ are_nested [] each sums = tt
 are_nested (t ∷ []) each sums = tt
 are_nested (t ∷ u ∷ turns) each sums = (each, sums)
 
-pub have_numbers : (extent : ℤ) (dims : List Indices) → AllByRecursion AreInside dims → FitsDisp (span_by extent dims) → AllByRecursion AreTurns (inward extent dims) × AreNested (inward extent dims)
+pub have_numbers : (extent : ℤ) (dims : List Indices) → AllByRecursion AreInside dims → FitsDisp (span_by extent dims) → AllByRecursion AreShapeTurns (inward extent dims) × AreNested (inward extent dims)
 have_numbers extent dims all fits =
     let size = span_reach extent dims in
     let most : reach_by extent dims ≤ 1152921504606846976 = let near = fits_near (span_by extent dims) fits in omega arith in

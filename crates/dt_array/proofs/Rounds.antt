@@ -7,8 +7,8 @@ use Rattle.std.proofs.lemmas.List.{map-append, append-nil}
 use Rattle.std.proofs.lemmas.List.Elements.{filter-append}
 use Rattle.std.proofs.lemmas.Nat.{div-add-mod', mod-mul-add}
 use Rattle.std.proofs.Math.Nat.{mul_assoc, mul-le-mul_right, mul-add-div_right, div-lt_iff_lt-mul, div-eq_of_lt-le, div-mul-le_self, lt-div-mul-add, mod-lt}
-use Rattle.dt_map.specs.Numbers.{below}
-use Rattle.dt_map.proofs.Offsets.{in_rows_of}
+use Rattle.dt_offsets.specs.Offsets.{below}
+use Rattle.dt_offsets.proofs.Rows.{in_rows_of}
 use Rattle.dt_array.proofs.Lists.{same_map, same_flat_map, map-same}
 
 filter-flat_map : {X Y : Type 0} (test : Y → Bool) (f : X → List Y) (xs : List X) → filter test (flat_map f xs) ≡ flat_map (λ x. filter test (f x)) xs

@@ -5,8 +5,8 @@ use Rattle.std.proofs.Common.{refl, sym, ap, subst, ◌∙◌, arith, to_z, of_z
 use Rattle.std.proofs.lemmas.List.{length-reverse}
 use Rattle.std.proofs.lemmas.List.Folds.{flat_map-map}
 use Rattle.dt_kinds.specs.Displacement.{FitsDisp}
-use Rattle.dt_kinds.proofs.Displacement.{same_disp}
-use Rattle.dt_map.specs.declared.typemap.Entry.{Entry}
+use Rattle.dt_kinds.proofs.Displacements.{same_disp}
+use Rattle.dt_map.specs.declared.entry.Entry.{Entry}
 use Rattle.dt_map.specs.Bounds.{extent_of}
 use Rattle.dt_map.specs.Constructors.{copies_at}
 use Rattle.dt_map.specs.Typemap.{Marked, shift}
@@ -18,13 +18,15 @@ use Rattle.dt_type.specs.declared.form.Order.{Order}
 use Rattle.dt_type.specs.declared.form.Order.TheVariants.{C, Fortran}
 use Rattle.dt_type.specs.declared.shape.Cover.TheVariants.{Erase}
 use Rattle.dt_type.specs.declared.shape.ShapeOf.TheVariants.{Grid}
-use Rattle.dt_type.specs.declared.shape.Turns.{Turns}
+use Rattle.dt_offsets.specs.declared.turns.Turns.{Turns}
 use Rattle.dt_type.specs.Arrays.{product, chosen_places}
-use Rattle.dt_type.specs.Conditions.{AreTurns, AreNested, IsShapeFor}
-use Rattle.dt_type.specs.Datatype.{typemap_of, entries_of, IsInRange}
+use Rattle.dt_type.specs.Conditions.{AreShapeTurns, AreNested, IsShapeFor}
+use Rattle.dt_type.specs.Datatype.{typemap_of, entries_of}
+use Rattle.dt_map.specs.Limits.{IsInRange}
 use Rattle.dt_type.specs.Form.{map_by, array}
 use Rattle.dt_type.specs.Listing.{entries_at}
-use Rattle.dt_type.specs.Shape.{covered, placed_by, grid_offsets}
+use Rattle.dt_type.specs.Shape.{covered, placed_by}
+use Rattle.dt_offsets.specs.Offsets.{grid_offsets}
 use Rattle.dt_ctor.specs.Answer.{IsCause}
 use Rattle.dt_array.specs.declared.indices.Indices.{Indices}
 use Rattle.dt_array.specs.declared.nest.Nest.{Nest}
@@ -71,7 +73,7 @@ module _ (order : Order) (dims : List Indices) (old shared : Seen) (form : FormO
   pub shape_for : (nest : Nest) → AllByRecursion AreInside dims → shared ≡ old → IsNest order read dims nest → IsShapeFor (Grid nest.turns shared) form
   shape_for nest inside same h = record {
     numbers =
-        subst (λ (ts : List Turns). AllByRecursion AreTurns ts × AreNested ts) (sym h.turns)
+        subst (λ (ts : List Turns). AllByRecursion AreShapeTurns ts × AreNested ts) (sym h.turns)
         (have_numbers read (outermost_first order dims) (outermost_inside order dims inside) (subst FitsDisp (sym (outermost_span read order dims)) h.fits));
     items = ap length h.turns ∙ length-inward read (outermost_first order dims) ∙ length-outermost order dims ∙ says.items;
     olds = ap (λ (t : Seen). t ∷ []) same ∙ says.olds;

@@ -5,12 +5,12 @@ use Rattle.std.proofs.Common.{refl, sym, ap, subst, ◌∙◌, arith, to_z, of_z
 use Rattle.std.proofs.lemmas.List.{map-append, reverse-append, reverse-reverse, take_more, take_all}
 use Rattle.std.proofs.Math.Nat.{mul_comm, mul-one, mul-le-mul, mul-le-mul_left, mul-le-mul_right}
 use Rattle.dt_kinds.specs.Displacement.{FitsDisp}
-use Rattle.dt_kinds.proofs.Displacement.{same_disp}
+use Rattle.dt_kinds.proofs.Displacements.{same_disp}
 use Rattle.dt_type.specs.declared.fault.CtorFault.{CtorFault}
 use Rattle.dt_type.specs.declared.fault.CtorFault.TheVariants.{BadArgument, Overflow, TooDeep, TooHeavy, NoMemory}
 use Rattle.dt_type.specs.declared.form.Order.{Order}
 use Rattle.dt_type.specs.declared.form.Order.TheVariants.{C, Fortran}
-use Rattle.dt_type.specs.declared.shape.Turns.{Turns}
+use Rattle.dt_offsets.specs.declared.turns.Turns.{Turns}
 use Rattle.dt_type.specs.Arrays.{product}
 use Rattle.dt_array.specs.declared.indices.Indices.{Indices}
 use Rattle.dt_array.specs.declared.nest.Nest.{Nest}

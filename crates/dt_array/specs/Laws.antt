@@ -5,7 +5,7 @@ use Rattle.dt_array.specs.Nested.{nested}
 use Rattle.dt_type.specs.declared.form.Order.{Order}
 use Rattle.dt_type.specs.declared.form.Order.TheVariants.{C, Fortran}
 use Rattle.dt_type.specs.Arrays.{Axis, chosen_places}
-use Rattle.dt_type.specs.Shape.{grid_offsets}
+use Rattle.dt_offsets.specs.Offsets.{grid_offsets}
 
 -- nested turns of chosen indices place what the index tuples place, in their sequence
 abbrev pub NestedPlaceChosen : Type 0

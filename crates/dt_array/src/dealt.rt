@@ -7,7 +7,7 @@ ghost use Rattle.dt_ctor.specs.Answer.{IsAnswer, IfMemory};
 ghost use Rattle.dt_type.specs.Arguments as spec;
 ghost use Rattle.dt_type.specs.Arguments.{takes_dist_dim, takes_grid};
 ghost use Rattle.dt_type.specs.Arrays.{product, darg_from, darray_axes};
-ghost use Rattle.dt_type.specs.Reach.{capped};
+ghost use Rattle.dt_offsets.specs.Reach.{capped};
 
 use crate::built::{array_of, copied, shared};
 use crate::indices::{Indices, rounds_of, row_of};

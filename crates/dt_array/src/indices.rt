@@ -2,7 +2,7 @@
 ghost use Rattle.std.specs.Prelude.{◌≡◌, ◌+◌, ◌-◌, ◌*◌, ◌/◌, ◌%◌, ◌==◌, ◌<◌, ◌≤◌, min, map};
 ghost use Rattle.std.specs.List.{filter};
 ghost use Rattle.dt_array.specs.Indices.{AreInside, axis_of};
-ghost use Rattle.dt_map.specs.Numbers.{below};
+ghost use Rattle.dt_offsets.specs.Offsets.{below};
 
 /// Indices in blocks: index q, for q below `count`, is `first + (q div block) * jump + q mod block`, of the `full` indices of the
 /// dimension. A `block` is at least 1.

@@ -4,7 +4,7 @@ use Rattle.std.proofs.Common.{arith, inl, inr, refl, sym, subst}
 use Rattle.std.proofs.lemmas.Bool.{cases_lt}
 use Rattle.std.proofs.lemmas.Int.{ints, to_z-of_z}
 use Rattle.dt_kinds.specs.Displacement.{FitsDisp}
-use Rattle.dt_map.specs.declared.typemap.Bounds.{Bounds}
+use Rattle.dt_map.specs.declared.bounds.Bounds.{Bounds}
 use Rattle.dt_map.specs.Bounds.{bounds_of}
 use Rattle.dt_type.specs.declared.datatype.Seen.{Seen}
 use Rattle.dt_type.specs.declared.fault.CtorFault.{CtorFault}
@@ -12,7 +12,7 @@ use Rattle.dt_type.specs.declared.fault.CtorFault.TheVariants.{BadArgument, Over
 use Rattle.dt_type.specs.declared.form.FormOf.{FormOf}
 use Rattle.dt_type.specs.declared.shape.ShapeOf.{ShapeOf}
 use Rattle.dt_type.specs.Arguments.{takes_arguments}
-use Rattle.dt_type.specs.Datatype.{AreInRange, IsInRange}
+use Rattle.dt_map.specs.Limits.{AreInRange, IsInRange}
 use Rattle.dt_type.specs.Form.{result_of, map_by, weight_by, depth_by}
 use Rattle.dt_ctor.specs.Answer.{IsMade, IsCause}
 use Rattle.dt_ctor.specs.Places.{Places}

@@ -6,17 +6,16 @@ use Rattle.std.proofs.Math.IntN.{+ℤ_idl, +ℤ_idr, zero-*ℤ}
 use Rattle.std.proofs.lemmas.List.{append-nil}
 use Rattle.dt_map.specs.Bounds.{extent_of}
 use Rattle.dt_map.specs.Constructors.{copies_at}
-use Rattle.dt_map.specs.Numbers.{below}
-use Rattle.dt_map.proofs.Offsets.{in_rows_of}
+use Rattle.dt_offsets.specs.Offsets.{below, turn_offset, turn_offsets}
+use Rattle.dt_offsets.proofs.Rows.{in_rows_of}
 use Rattle.dt_type.specs.declared.datatype.Seen.{Seen}
 use Rattle.dt_type.specs.declared.form.FormOf.TheVariants.{Contiguous, Vector, Hvector}
 use Rattle.dt_type.specs.declared.shape.ShapeOf.{ShapeOf}
 use Rattle.dt_type.specs.declared.shape.ShapeOf.TheVariants.{Grid}
-use Rattle.dt_type.specs.declared.shape.Turns.{Turns}
-use Rattle.dt_type.specs.Conditions.{AreTurns}
+use Rattle.dt_offsets.specs.declared.turns.Turns.{Turns}
+use Rattle.dt_type.specs.Conditions.{AreShapeTurns}
 use Rattle.dt_type.specs.Constructors.{contiguous_offsets, hvector_offsets, vector_offsets}
 use Rattle.dt_type.specs.Datatype.{typemap_of}
-use Rattle.dt_type.specs.Shape.{turn_offset, turn_offsets}
 use Rattle.dt_ctor.specs.Places.{Places}
 use Rattle.dt_ctor.proofs.Products.{sum_times, product_times}
 
@@ -47,7 +46,7 @@ each_alone [] = refl
 each_alone (x ∷ xs) = ap (λ y. y ∷ flat_map (λ z. map (λ y. z +ℤ y) (pos 0 ∷ [])) xs) (+ℤ_idr x) ∙ ap (λ ys. x ∷ ys) (each_alone xs)
 
 -- one dimension of turns places as the turns do
-one_dimension : (t : Turns) (count block jump : ℤ) (old : Seen) → AreTurns t → turn_offsets t ≡ hvector_offsets (nat_abs count) (nat_abs block) jump (extent_of (typemap_of old))
+one_dimension : (t : Turns) (count block jump : ℤ) (old : Seen) → AreShapeTurns t → turn_offsets t ≡ hvector_offsets (nat_abs count) (nat_abs block) jump (extent_of (typemap_of old))
     → Places (Grid (t ∷ []) old) (Hvector count block jump old)
 one_dimension t count block jump old numbers e = record {
   numbers = ((numbers, tt), tt);
@@ -56,7 +55,7 @@ one_dimension t count block jump old numbers e = record {
   typemap = ap (λ xs. copies_at xs (typemap_of old)) (each_alone (turn_offsets t) ∙ e);
 }
 
-pub placed : (t : Turns) (turns : List Turns) (count block jump : ℤ) (old shared : Seen) → AreTurns t
+pub placed : (t : Turns) (turns : List Turns) (count block jump : ℤ) (old shared : Seen) → AreShapeTurns t
     → turn_offsets t ≡ hvector_offsets (nat_abs count) (nat_abs block) jump (extent_of (typemap_of old)) → turns ≡ t ∷ [] → shared ≡ old
     → Places (Grid turns shared) (Hvector count block jump old)
 placed t turns count block jump old shared numbers e one same =

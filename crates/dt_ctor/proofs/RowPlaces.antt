@@ -15,14 +15,15 @@ use Rattle.dt_type.specs.declared.form.IntBlock.{IntBlock}
 use Rattle.dt_type.specs.declared.form.PartOf.{PartOf}
 use Rattle.dt_type.specs.declared.shape.ShapeOf.TheVariants.{Each, Seq}
 use Rattle.dt_type.specs.declared.shape.ShapePartOf.{ShapePartOf}
-use Rattle.dt_type.specs.declared.shape.Spot.{Spot}
-use Rattle.dt_type.specs.Conditions.{IsSpot, IsShapePart}
+use Rattle.dt_offsets.specs.declared.turns.Spot.{Spot}
+use Rattle.dt_offsets.specs.Near.{IsSpot}
+use Rattle.dt_type.specs.Conditions.{IsShapePart}
 use Rattle.dt_type.specs.Constructors.{extents_offsets, block_offsets}
 use Rattle.dt_type.specs.Datatype.{typemap_of}
 use Rattle.dt_type.specs.Form as form
 use Rattle.dt_type.specs.Form.{map_by}
 use Rattle.dt_type.specs.Shape as shape
-use Rattle.dt_type.specs.Shape.{row_offsets, spot_offsets}
+use Rattle.dt_offsets.specs.Offsets.{row_offsets, spot_offsets}
 use Rattle.dt_ctor.specs.Places.{Places}
 use Rattle.dt_ctor.specs.Rows.{int_row, addr_row, int_block_row, addr_block_row, part_row}
 use Rattle.dt_ctor.proofs.Products.{sum_times}

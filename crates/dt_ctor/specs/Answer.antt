@@ -4,7 +4,7 @@ use Rattle.dt_type.specs.declared.fault.CtorFault.{CtorFault}
 use Rattle.dt_type.specs.declared.fault.CtorFault.TheVariants.{BadArgument, Overflow, TooDeep, TooHeavy, NoMemory}
 use Rattle.dt_type.specs.declared.form.FormOf.{FormOf}
 use Rattle.dt_type.specs.Arguments.{takes_arguments}
-use Rattle.dt_type.specs.Datatype.{IsInRange}
+use Rattle.dt_map.specs.Limits.{IsInRange}
 use Rattle.dt_type.specs.Form.{result_of, map_by, weight_by, depth_by}
 
 -- The answers of a constructor whose arguments are those of a form. Of several causes the first in the list of faults is

@@ -5,7 +5,7 @@ use Rattle.dt_type.specs.declared.form.AddrBlock.{AddrBlock}
 use Rattle.dt_type.specs.declared.form.IntBlock.{IntBlock}
 use Rattle.dt_type.specs.declared.form.PartOf.{PartOf}
 use Rattle.dt_type.specs.declared.shape.ShapePartOf.{ShapePartOf}
-use Rattle.dt_type.specs.declared.shape.Spot.{Spot}
+use Rattle.dt_offsets.specs.declared.turns.Spot.{Spot}
 use Rattle.dt_type.specs.Datatype.{typemap_of}
 
 -- A block of an argument list as a row of copies, by the extent of the old type.

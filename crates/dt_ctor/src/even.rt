@@ -2,9 +2,10 @@
 ghost use Rattle.std.specs.Prelude.{◌≡◌, ◌≤◌};
 ghost use Rattle.dt_ctor.specs.Answer.{IsAnswer, IfMemory};
 ghost use Rattle.dt_ctor.specs.Places.{Places};
-ghost use Rattle.dt_type.specs.Conditions.{IsFactor, AreTurns};
+ghost use Rattle.dt_offsets.specs.Near.{IsFactor};
+ghost use Rattle.dt_type.specs.Conditions.{AreShapeTurns};
 ghost use Rattle.dt_type.specs.Constructors.{hvector_offsets};
-ghost use Rattle.dt_type.specs.Shape.{turn_offsets};
+ghost use Rattle.dt_offsets.specs.Offsets.{turn_offsets};
 
 use crate::built::{built, extent_of, extents, shared};
 use dt_type::{CtorFault, Datatype, FormOf, Shape, ShapeOf, Turns};
@@ -19,7 +20,7 @@ fn turns_of(count: u32, block: u32, jump: i128, step: i128) -> Turns
     requires jump { IsFactor jump }
     requires step { IsFactor step }
     ensures offsets { turn_offsets result ≡ hvector_offsets count block jump step }
-    ensures numbers { AreTurns result }
+    ensures numbers { AreShapeTurns result }
 {
     Turns {
         first: 0,

@@ -5,7 +5,7 @@ ghost use Rattle.dt_ctor.specs.Answer.{IsAnswer, IfMemory};
 ghost use Rattle.dt_ctor.specs.Places.{Places};
 ghost use Rattle.dt_ctor.specs.Rows.{int_row, addr_row};
 ghost use Rattle.dt_type.specs.Arguments.{is_count};
-ghost use Rattle.dt_type.specs.Conditions.{IsSpot};
+ghost use Rattle.dt_offsets.specs.Near.{IsSpot};
 
 use crate::built::{built, copied, extent_of, extents, shared};
 use dt_type::{AddrBlock, CtorFault, Datatype, FormOf, IntBlock, Shape, ShapeOf, Spot};

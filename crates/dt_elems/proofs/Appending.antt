@@ -8,10 +8,10 @@ use Rattle.std.proofs.lemmas.List.{map-append}
 use Rattle.std.proofs.lemmas.List.Folds.{list_all-append}
 use Rattle.dt_kinds.specs.declared.kind.Rep.{Rep}
 use Rattle.dt_kinds.specs.Image.{image}
-use Rattle.dt_map.specs.declared.typemap.Entry.{Entry}
+use Rattle.dt_map.specs.declared.entry.Entry.{Entry}
 use Rattle.dt_map.specs.Bounds.{extent_of}
 use Rattle.dt_map.specs.Elements.{elements, are_inside, lies_inside}
-use Rattle.dt_map.specs.Numbers.{below}
+use Rattle.dt_offsets.specs.Offsets.{below}
 use Rattle.dt_map.specs.Packed.{bytes_at, packed}
 use Rattle.dt_map.specs.Typemap.{Marked, shift, shift_entry}
 use Rattle.dt_map.proofs.Copies.{elements_of_more}

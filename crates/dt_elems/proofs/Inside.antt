@@ -5,17 +5,18 @@ use Rattle.std.specs.Int.{int_min, int_max}
 use Rattle.std.specs.List.{flat_map}
 use Rattle.std.proofs.lemmas.Int.{ints, clamps}
 use Rattle.std.proofs.lemmas.List.Folds.{flat_map-map}
-use Rattle.dt_map.specs.declared.typemap.Entry.{Entry}
-use Rattle.dt_map.specs.declared.typemap.Marks.{Marks}
+use Rattle.dt_map.specs.declared.entry.Entry.{Entry}
+use Rattle.dt_offsets.specs.declared.marks.Marks.{Marks}
 use Rattle.dt_map.specs.Bounds.{true_lb, true_ub, extent_of}
 use Rattle.dt_map.specs.Elements.{elements, are_inside, lies_inside}
-use Rattle.dt_map.specs.Numbers.{below}
-use Rattle.dt_map.specs.Placing.{joined_marks}
-use Rattle.dt_map.specs.Span.{span_of, reach_of, stretched}
+use Rattle.dt_offsets.specs.Offsets.{below}
+use Rattle.dt_offsets.specs.Span.{joined_marks, reach_of, stretched}
+use Rattle.dt_map.specs.Span.{span_of}
 use Rattle.dt_map.specs.Summary.{lb_or_zero, ub_or_zero}
 use Rattle.dt_map.specs.Typemap.{Marked, shift}
-use Rattle.dt_map.proofs.Offsets.{placed, reach_of_even}
-use Rattle.dt_map.proofs.Summaries.{both, summary_of_copies, true_lb_is, true_ub_is}
+use Rattle.dt_map.proofs.Placings.{placed}
+use Rattle.dt_offsets.proofs.Spans.{reach_of_even, both}
+use Rattle.dt_map.proofs.Summaries.{summary_of_copies, true_lb_is, true_ub_is}
 
 -- whether a range lies in a buffer of so many bytes, and a span, where there is one
 abbrev pub range_lies : ℕ → ℤ → ℤ → Bool

@@ -1,3 +1,3 @@
 pub mod Bytes
-pub mod Displacement
+pub mod Displacements
 pub mod Table

@@ -10,12 +10,58 @@ use Rattle.dt_kinds.specs.Kind.{name_of}
 
 -- all kinds, in the order of their numbers
 abbrev pub kinds : List Kind
-kinds = Byte ∷ Char ∷ SignedChar ∷ UnsignedChar ∷ Short ∷ UnsignedShort ∷ Int ∷ Unsigned ∷ Long ∷ UnsignedLong ∷ LongLong ∷ UnsignedLongLong ∷ Int8 ∷ Int16 ∷ Int32 ∷ Int64 ∷ Uint8 ∷ Uint16 ∷ Uint32 ∷ Uint64 ∷ Aint ∷ Count ∷ Offset ∷ []
+kinds =
+    Byte
+    ∷ Char
+    ∷ SignedChar
+    ∷ UnsignedChar
+    ∷ Short
+    ∷ UnsignedShort
+    ∷ Int
+    ∷ Unsigned
+    ∷ Long
+    ∷ UnsignedLong
+    ∷ LongLong
+    ∷ UnsignedLongLong
+    ∷ Int8
+    ∷ Int16
+    ∷ Int32
+    ∷ Int64
+    ∷ Uint8
+    ∷ Uint16
+    ∷ Uint32
+    ∷ Uint64
+    ∷ Aint
+    ∷ Count
+    ∷ Offset
+    ∷ []
 
 -- the names of MPI 4.1, sections 3.2.2 and 6.9.4, that this project leaves out
 abbrev pub left_out : List (List ℕ)
 left_out =
-    codes "MPI_FLOAT" ∷ codes "MPI_DOUBLE" ∷ codes "MPI_LONG_DOUBLE" ∷ codes "MPI_WCHAR" ∷ codes "MPI_C_BOOL" ∷ codes "MPI_C_COMPLEX" ∷ codes "MPI_C_FLOAT_COMPLEX" ∷ codes "MPI_C_DOUBLE_COMPLEX" ∷ codes "MPI_C_LONG_DOUBLE_COMPLEX" ∷ codes "MPI_PACKED" ∷ codes "MPI_FLOAT_INT" ∷ codes "MPI_DOUBLE_INT" ∷ codes "MPI_LONG_INT" ∷ codes "MPI_2INT" ∷ codes "MPI_SHORT_INT" ∷ codes "MPI_LONG_DOUBLE_INT" ∷ codes "MPI_INTEGER" ∷ codes "MPI_REAL" ∷ codes "MPI_DOUBLE_PRECISION" ∷ codes "MPI_COMPLEX" ∷ codes "MPI_LOGICAL" ∷ codes "MPI_CHARACTER" ∷ []
+    codes "MPI_FLOAT"
+    ∷ codes "MPI_DOUBLE"
+    ∷ codes "MPI_LONG_DOUBLE"
+    ∷ codes "MPI_WCHAR"
+    ∷ codes "MPI_C_BOOL"
+    ∷ codes "MPI_C_COMPLEX"
+    ∷ codes "MPI_C_FLOAT_COMPLEX"
+    ∷ codes "MPI_C_DOUBLE_COMPLEX"
+    ∷ codes "MPI_C_LONG_DOUBLE_COMPLEX"
+    ∷ codes "MPI_PACKED"
+    ∷ codes "MPI_FLOAT_INT"
+    ∷ codes "MPI_DOUBLE_INT"
+    ∷ codes "MPI_LONG_INT"
+    ∷ codes "MPI_2INT"
+    ∷ codes "MPI_SHORT_INT"
+    ∷ codes "MPI_LONG_DOUBLE_INT"
+    ∷ codes "MPI_INTEGER"
+    ∷ codes "MPI_REAL"
+    ∷ codes "MPI_DOUBLE_PRECISION"
+    ∷ codes "MPI_COMPLEX"
+    ∷ codes "MPI_LOGICAL"
+    ∷ codes "MPI_CHARACTER"
+    ∷ []
 
 -- whether a word is the name of a datatype that is left out
 unfoldable pub is_left_out : List ℕ → Bool

@@ -1,3 +1,4 @@
+//! The kind table: names, sizes and signs.
 ghost use Rattle.std.specs.Prelude.{◌≡◌, codes};
 ghost use Rattle.dt_kinds.specs.Kind.{native_size, external_size, is_signed, name_of};
 ghost use Rattle.dt_kinds.specs.Name.{kind_of};

@@ -2,8 +2,8 @@
 use Rattle.std.proofs.Common.{◌≡◌, ℕ, ◌%◌, ℤ, pos, nat_abs, true, false, length, Option, Some, None, sym, ◌∙◌}
 use Rattle.std.proofs.lemmas.List.{length-map, length-replicate}
 use Rattle.std.specs.Prelude.{int_lt, MatchOption}
-use Rattle.dt_map.specs.Numbers.{below}
-use Rattle.dt_type.proofs.Reaches.{length-below}
+use Rattle.dt_offsets.specs.Offsets.{below}
+use Rattle.dt_offsets.proofs.Reaches.{length-below}
 use Rattle.dt_script.specs.declared.command.Fill.{Fill}
 use Rattle.dt_script.specs.declared.command.Fill.TheVariants.{Zero, Count}
 use Rattle.dt_machine.specs.Refusal.{IsNegativeFill}

@@ -1,7 +1,7 @@
 -- A line that means a command is one step of it.
 use Rattle.std.proofs.Common.{ℕ, Bool, List, Result, Ok, Err}
 use Rattle.std.specs.Prelude.{IfOk}
-use Rattle.dt_kinds.specs.declared.NoMemory.{NoMemory}
+use Rattle.dt_kinds.specs.declared.memory.NoMemory.{NoMemory}
 use Rattle.dt_reply.specs.Reply.{Responds}
 use Rattle.dt_script.specs.declared.command.Command.{Command}
 use Rattle.dt_script.specs.Line.{IsLine, Does}

@@ -1,7 +1,7 @@
 -- When a command is refused, and by which number.
 use Rattle.std.specs.Prelude.{◌≡◌, ℕ, ◌+◌, ◌≤◌, ◌<◌, ℤ, pos, nat_abs, int_lt, ◌||◌, IsTrue, IsFalse, is_none, List, length, Some, None, false, ◌⊎◌}
 use Rattle.dt_kinds.specs.Name.{is_left_out}
-use Rattle.dt_map.specs.declared.typemap.Entry.{Entry}
+use Rattle.dt_map.specs.declared.entry.Entry.{Entry}
 use Rattle.dt_map.specs.Elements.{elements, are_inside}
 use Rattle.dt_map.specs.Packed.{total}
 use Rattle.dt_reply.specs.declared.refusal.Refusal.{Refusal}

@@ -45,8 +45,6 @@ impl From<NoMemory> for Stop {
 }
 
 impl From<AllocError> for Stop {
-    ghost use Rattle.std.specs.Prelude.{◌≡◌};
-    ghost use Rattle.dt_machine.specs.declared.outcome.Stop.TheVariants.{NoMemory as WithoutMemory};
 
     ghost from_gives = { λ _ stop. stop ≡ WithoutMemory };
 

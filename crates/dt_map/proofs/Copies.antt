@@ -6,14 +6,14 @@ use Rattle.std.proofs.lemmas.Grind.{flat_map-append}
 use Rattle.std.specs.List.{flat_map}
 use Rattle.dt_kinds.specs.declared.kind.Rep.{Rep}
 use Rattle.dt_kinds.specs.Kind.{packed_size}
-use Rattle.dt_map.specs.declared.typemap.Entry.{Entry}
-use Rattle.dt_map.specs.Numbers.{below}
+use Rattle.dt_map.specs.declared.entry.Entry.{Entry}
+use Rattle.dt_offsets.specs.Offsets.{below}
 use Rattle.dt_map.specs.Typemap.{Marked, shift, shift_entry}
 use Rattle.dt_map.specs.Bounds.{extent_of}
 use Rattle.dt_map.specs.Elements.{elements}
 use Rattle.dt_map.specs.Packed.{total}
 use Rattle.dt_map.specs.Laws.{ElementsArePlaced, ElementsOfMore, TotalOfElements}
-use Rattle.dt_map.proofs.Offsets.{placed, shift-append, shift-shift}
+use Rattle.dt_map.proofs.Placings.{placed, shift-append, shift-shift}
 
 pub elements_of_more : ElementsOfMore
 elements_of_more m n origin =

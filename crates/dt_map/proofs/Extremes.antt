@@ -8,7 +8,7 @@ use Rattle.std.specs.List.{All}
 use Rattle.std.specs.Int.{int_min, int_max}
 use Rattle.dt_kinds.proofs.Table.{native_size-le, external_size-le}
 use Rattle.dt_kinds.specs.Kind.{native_size, external_size}
-use Rattle.dt_map.specs.declared.typemap.Entry.{Entry}
+use Rattle.dt_map.specs.declared.entry.Entry.{Entry}
 use Rattle.dt_map.specs.Bounds.{alignment, size_of, external_size_of, true_lb, true_ub, end_of}
 use Rattle.dt_map.specs.Limits.{EntryFits}
 use Rattle.dt_kinds.specs.Displacement.{FitsDisp}

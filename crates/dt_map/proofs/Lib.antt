@@ -1,8 +1,10 @@
 pub mod Copies
+pub mod Counted
+pub mod Digests
 pub mod Examples
 pub mod Extremes
 pub mod Leading
-pub mod Offsets
+pub mod Placings
 pub mod Rounding
 pub mod Summaries
 pub mod Writing

@@ -4,10 +4,11 @@ use Rattle.std.proofs.lemmas.Int.{ints}
 use Rattle.std.proofs.lemmas.Bool.{cases_lt}
 use Rattle.std.proofs.Math.Nat.{mod_self, mod-eq_of_lt, mod-lt, mod-add-div, add-mul-mod_self_left}
 use Rattle.dt_map.specs.Numbers.{padding}
+use Rattle.dt_kinds.specs.declared.displacement.TheConstants.{DISP_MAX}
 use Rattle.dt_kinds.specs.Displacement.{FitsDisp}
 use Rattle.std.specs.List.{All}
-use Rattle.dt_map.specs.declared.typemap.Entry.{Entry}
-use Rattle.dt_map.specs.declared.typemap.Marks.{Marks}
+use Rattle.dt_map.specs.declared.entry.Entry.{Entry}
+use Rattle.dt_offsets.specs.declared.marks.Marks.{Marks}
 use Rattle.dt_map.specs.Limits.{EntryFits, MarksFit}
 use Rattle.dt_map.specs.Bounds.{alignment, true_lb, true_ub, natural_ub, lower_from, upper_from}
 use Rattle.dt_map.specs.Laws.{PaddingIsLeast, NaturalIsLeast, BoundsAreInRange}
@@ -70,14 +71,14 @@ natural_is_least es =
 padding-le : (n a : ℕ) → 0 < a → a ≤ 8 → padding n a ≤ 7
 padding-le n a positive few = let h = mod-lt (a - n % a) positive in omega arith
 
-natural_ub_in_range : (es : List Entry) → All EntryFits es → (negsuc 1152921504606846975 ≤ℤ natural_ub es) × (natural_ub es ≤ℤ pos 1152921504606846983)
+natural_ub_in_range : (es : List Entry) → All EntryFits es → ((pos 0 -ℤ DISP_MAX) ≤ℤ natural_ub es) × (natural_ub es ≤ℤ (DISP_MAX +ℤ pos 7))
 natural_ub_in_range es all =
     let high = true_ub-fits es all in
     let more = padding-le (nat_abs (true_ub es -ℤ true_lb es)) (alignment es) (alignment-pos es) (alignment-le es) in
     (omega (arith, ints, high.0, high.1, more), omega (arith, ints, high.0, high.1, more))
 
 ends_in_range : (es : List Entry) (marks : Option Marks) → All EntryFits es → MarksFit marks →
-    FitsDisp (lower_from marks es) × (negsuc 1152921504606846975 ≤ℤ upper_from marks es) × (upper_from marks es ≤ℤ pos 1152921504606846983)
+    FitsDisp (lower_from marks es) × ((pos 0 -ℤ DISP_MAX) ≤ℤ upper_from marks es) × (upper_from marks es ≤ℤ (DISP_MAX +ℤ pos 7))
 ends_in_range es None all fit = let up = natural_ub_in_range es all in (true_lb-fits es all, up.0, up.1)
 ends_in_range es (Some marks) all fit = let high = fit.1 in (fit.0, high.0, omega (arith, ints, high.1))
 

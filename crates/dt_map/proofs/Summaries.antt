@@ -1,51 +1,25 @@
 -- how summaries shift, join and copy
 use Rattle.std.proofs.Common.{◌≡◌, ℕ, zero, suc, ◌<◌, max, ℤ, pos, ◌+ℤ◌, Option, Some, None, List, [], ◌∷◌, ◌++◌, map, length, refl, sym, ap, ◌∙◌, arith, length-append, append-nil, unwrap_or, option_map}
+use Rattle.std.specs.Prelude.{cond, ◌==◌}
+use Rattle.std.proofs.Math.Dec.{eqb-suc-zero}
 use Rattle.std.proofs.lemmas.Int.{ints, clamps}
 use Rattle.std.proofs.lemmas.List.Sums.{sum_by-append, sum_by-cons}
 use Rattle.std.proofs.lemmas.Grind.{flat_map-append}
 use Rattle.std.specs.List.{flat_map}
 use Rattle.dt_kinds.specs.Kind.{native_size, external_size}
-use Rattle.dt_map.specs.declared.typemap.Entry.{Entry}
-use Rattle.dt_map.specs.declared.typemap.Marks.{Marks}
-use Rattle.dt_map.specs.Typemap.{Marked, shift, shift_entry, shift_marks}
-use Rattle.dt_map.specs.Bounds.{end_of, size_of, external_size_of, alignment, true_lb, true_ub, lower_from, upper_from, natural_end}
+use Rattle.dt_map.specs.declared.entry.Entry.{Entry}
+use Rattle.dt_offsets.specs.declared.marks.Marks.{Marks}
+use Rattle.dt_map.specs.Typemap.{Marked, shift, shift_entry}
+use Rattle.dt_offsets.specs.Span.{shift_marks, joined_marks, spans, reach_of, stretched, point}
+use Rattle.dt_map.specs.Bounds.{bounds_of, end_of, size_of, external_size_of, alignment, true_lb, true_ub, lower_from, upper_from, natural_end}
 use Rattle.dt_map.specs.Numbers.{lesser, greater, least, greatest}
-use Rattle.dt_map.specs.Placing.{joined_marks, placed_marks}
+use Rattle.dt_map.specs.Placing.{placed_marks}
 use Rattle.dt_map.specs.Constructors.{copies_at}
-use Rattle.dt_map.specs.Summary.{Summary, summary_of, shifted, joined, copied, copied_align, lb_or_zero, ub_or_zero, lb_from, ub_from}
-use Rattle.dt_map.specs.Span.{spans, span_of, reach_of, stretched, point, entry_span}
+use Rattle.dt_map.specs.Summary.{Summary, summary_of, shifted, joined, copied, copied_align, ends_or_zero, outer_ends, true_span}
+use Rattle.dt_map.specs.Span.{span_of, entry_span}
 use Rattle.dt_map.specs.Laws.{BoundsFromSummary, SummaryOfNone, SummaryOfShifted, SummaryOfJoined, SummaryOfCopies}
+use Rattle.dt_offsets.proofs.Spans.{both, joined_marks_assoc, joined_marks_none, shift_marks-joined, spans-append, stretched_more}
 use Rattle.dt_map.proofs.Extremes.{alignment-pos, alignment-append}
-
--- pairs of bounds
-pub both : (low_a low_b high_a high_b : ℤ) → low_a ≡ low_b → high_a ≡ high_b → Some (let m : Marks = record { lb = low_a; ub = high_a } in m) ≡ Some (record { lb = low_b; ub = high_b })
-both low_a low_b high_a high_b e f = cc
-
-pub joined_marks_assoc : (a b c : Option Marks) → joined_marks (joined_marks a b) c ≡ joined_marks a (joined_marks b c)
-joined_marks_assoc None b c = refl
-joined_marks_assoc (Some a) None c = refl
-joined_marks_assoc (Some a) (Some b) None = refl
-joined_marks_assoc (Some a) (Some b) (Some c) = both _ _ _ _ (omega (arith, ints, clamps)) (omega (arith, ints, clamps))
-
-pub joined_marks_none : (a : Option Marks) → joined_marks a None ≡ a
-joined_marks_none None = refl
-joined_marks_none (Some a) = refl
-
-pub shift_marks-joined : (x : ℤ) (a b : Option Marks) → shift_marks x (joined_marks a b) ≡ joined_marks (shift_marks x a) (shift_marks x b)
-shift_marks-joined x None b = refl
-shift_marks-joined x (Some a) None = refl
-shift_marks-joined x (Some a) (Some b) = both _ _ _ _ (omega (arith, ints, clamps)) (omega (arith, ints, clamps))
-
-pub shift_marks-shift_marks : (x y : ℤ) (a : Option Marks) → shift_marks x (shift_marks y a) ≡ shift_marks (y +ℤ x) a
-shift_marks-shift_marks x y None = refl
-shift_marks-shift_marks x y (Some a) = both _ _ _ _ (omega (arith, ints)) (omega (arith, ints))
-
-pub stretched_more : (x : ℤ) (reach bounds : Option Marks) →
-    joined_marks (shift_marks x bounds) (stretched reach bounds) ≡ stretched (joined_marks (point x) reach) bounds
-stretched_more x None None = refl
-stretched_more x (Some r) None = refl
-stretched_more x None (Some b) = refl
-stretched_more x (Some r) (Some b) = both _ _ _ _ (omega (arith, ints, clamps)) (omega (arith, ints, clamps))
 
 -- entries further on
 pub size_of-shift : (x : ℤ) (es : List Entry) → size_of (shift x es) ≡ size_of es
@@ -80,17 +54,13 @@ span_of-shift x (e ∷ es) =
     ap (λ s. joined_marks s (span_of (shift x es))) (entry_further x e)
     ∙ (ap (joined_marks (shift_marks x here)) (span_of-shift x es) ∙ sym (shift_marks-joined x here (span_of es)))
 
-pub spans-append : {X : Type 0} (f : X → Option Marks) (xs ys : List X) → spans f (xs ++ ys) ≡ joined_marks (spans f xs) (spans f ys)
-spans-append f [] ys = refl
-spans-append f (x ∷ xs) ys = ap (joined_marks (f x)) (spans-append f xs ys) ∙ sym (joined_marks_assoc (f x) (spans f xs) (spans f ys))
-
 pub placed_marks-append : (ms ns : List (ℤ × Marked)) → placed_marks (ms ++ ns) ≡ joined_marks (placed_marks ms) (placed_marks ns)
 placed_marks-append [] ns = refl
 placed_marks-append (m ∷ ms) ns =
     ap (joined_marks (shift_marks m.0 m.1.marks)) (placed_marks-append ms ns) ∙ sym (joined_marks_assoc (shift_marks m.0 m.1.marks) (placed_marks ms) (placed_marks ns))
 
 -- two summaries with the same parts
-same_summary : (size size' ext ext' elements elements' align align' : ℕ) (span span' marks marks' : Option Marks) →
+pub same_summary : (size size' ext ext' elements elements' align align' : ℕ) (span span' marks marks' : Option Marks) →
     size ≡ size' → ext ≡ ext' → elements ≡ elements' → align ≡ align' → span ≡ span' → marks ≡ marks' →
     (let s : Summary = record { size = size; ext_size = ext; elements = elements; align = align; span = span; marks = marks } in s)
     ≡ record { size = size'; ext_size = ext'; elements = elements'; align = align'; span = span'; marks = marks' }
@@ -163,23 +133,23 @@ greatest_is : (es : List Entry) → greatest (map end_of es) ≡ option_map (λ 
 greatest_is [] = refl
 greatest_is (e ∷ es) = ap (greater (Some (end_of e))) (greatest_is es) ∙ greater_ub e.disp (end_of e) (span_of es)
 
-lb_or_zero_is : (s : Option Marks) → unwrap_or (option_map (λ m. m.lb) s) (pos 0) ≡ lb_or_zero s
+lb_or_zero_is : (s : Option Marks) → unwrap_or (option_map (λ m. m.lb) s) (pos 0) ≡ (ends_or_zero s).lb
 lb_or_zero_is None = refl
 lb_or_zero_is (Some m) = refl
 
-ub_or_zero_is : (s : Option Marks) → unwrap_or (option_map (λ m. m.ub) s) (pos 0) ≡ ub_or_zero s
+ub_or_zero_is : (s : Option Marks) → unwrap_or (option_map (λ m. m.ub) s) (pos 0) ≡ (ends_or_zero s).ub
 ub_or_zero_is None = refl
 ub_or_zero_is (Some m) = refl
 
-pub true_lb_is : (es : List Entry) → true_lb es ≡ lb_or_zero (span_of es)
+pub true_lb_is : (es : List Entry) → true_lb es ≡ (ends_or_zero (span_of es)).lb
 true_lb_is es = ap (λ o. unwrap_or o (pos 0)) (least_is es) ∙ lb_or_zero_is (span_of es)
 
-pub true_ub_is : (es : List Entry) → true_ub es ≡ ub_or_zero (span_of es)
+pub true_ub_is : (es : List Entry) → true_ub es ≡ (ends_or_zero (span_of es)).ub
 true_ub_is es = ap (λ o. unwrap_or o (pos 0)) (greatest_is es) ∙ ub_or_zero_is (span_of es)
 
-bounds_with : (m : Marked) (marks : Option Marks) (s : Option Marks) → true_lb m.entries ≡ lb_or_zero s → true_ub m.entries ≡ ub_or_zero s →
-    (lower_from marks m.entries ≡ lb_from marks s) × (upper_from marks m.entries ≡ ub_from marks s (alignment m.entries))
-bounds_with m None s f g = (f, ap (λ z. natural_end z (true_ub m.entries) (alignment m.entries)) f ∙ ap (λ z. natural_end (lb_or_zero s) z (alignment m.entries)) g)
+bounds_with : (m : Marked) (marks : Option Marks) (s : Option Marks) → true_lb m.entries ≡ (ends_or_zero s).lb → true_ub m.entries ≡ (ends_or_zero s).ub →
+    (lower_from marks m.entries ≡ (outer_ends (ends_or_zero s) (alignment m.entries) marks).lb) × (upper_from marks m.entries ≡ (outer_ends (ends_or_zero s) (alignment m.entries) marks).ub)
+bounds_with m None s f g = (f, ap (λ z. natural_end z (true_ub m.entries) (alignment m.entries)) f ∙ ap (λ z. natural_end (ends_or_zero s).lb z (alignment m.entries)) g)
 bounds_with m (Some marks) s f g = (refl, refl)
 
 pub bounds_from_summary : BoundsFromSummary
@@ -188,3 +158,19 @@ bounds_from_summary m =
     let high = true_ub_is m.entries in
     let ends = bounds_with m m.marks (span_of m.entries) low high in
     cc
+
+-- true bounds are the ends of the span of the entries
+ends_joined : (a : Marks) (s : Option Marks) → Some (ends_or_zero (joined_marks (Some a) s)) ≡ joined_marks (Some a) s
+ends_joined a None = refl
+ends_joined a (Some s) = refl
+
+pub true_span_is : (m : Marked) → true_span (bounds_of m) ≡ span_of m.entries
+true_span_is m = cases m.entries
+  where
+    cases : (es : List Entry) → cond (length es == 0) None (Some (record { lb = true_lb es; ub = true_ub es })) ≡ span_of es
+    cases [] = refl
+    cases (e ∷ es) =
+        let ends : Option Marks = Some (record { lb = true_lb (e ∷ es); ub = true_ub (e ∷ es) }) in
+        ap (λ b. cond b None ends) (eqb-suc-zero (length es))
+        ∙ both _ _ _ _ (true_lb_is (e ∷ es)) (true_ub_is (e ∷ es))
+        ∙ ends_joined (record { lb = e.disp; ub = end_of e }) (span_of es)

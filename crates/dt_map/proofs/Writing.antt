@@ -12,7 +12,7 @@ use Rattle.dt_kinds.specs.declared.kind.Rep.TheVariants.{Native, External32}
 use Rattle.dt_kinds.specs.Kind.{native_size, external_size, packed_size}
 use Rattle.dt_kinds.specs.Image.{image, restore, filler}
 use Rattle.dt_kinds.proofs.Table.{external_is_no_larger}
-use Rattle.dt_map.specs.declared.typemap.Entry.{Entry}
+use Rattle.dt_map.specs.declared.entry.Entry.{Entry}
 use Rattle.dt_map.specs.Bounds.{end_of}
 use Rattle.dt_map.specs.Elements.{lies_inside, are_inside, IsByteOf, Overlaps}
 use Rattle.dt_map.specs.Packed.{bytes_at, packed, total}

@@ -1,9 +1,9 @@
 use Rattle.std.specs.Prelude.{Option, Some, None, ℕ, ◌+ℤ◌, ◌-ℤ◌, ℤ, pos, nat_abs, max, List, [], ◌∷◌, map, unwrap_or, length}
 use Rattle.std.specs.List.{sum_by}
 use Rattle.dt_kinds.specs.Kind.{native_size, external_size}
-use Rattle.dt_map.specs.declared.typemap.Entry.{Entry}
-use Rattle.dt_map.specs.declared.typemap.Marks.{Marks}
-use Rattle.dt_map.specs.declared.typemap.Bounds.{Bounds}
+use Rattle.dt_map.specs.declared.entry.Entry.{Entry}
+use Rattle.dt_offsets.specs.declared.marks.Marks.{Marks}
+use Rattle.dt_map.specs.declared.bounds.Bounds.{Bounds}
 use Rattle.dt_map.specs.Numbers.{least, greatest, padding}
 use Rattle.dt_map.specs.Typemap.{Marked}
 

@@ -1,7 +1,7 @@
 use Rattle.std.specs.Prelude.{Option, Some, None, ℕ, zero, suc, ◌%◌, ◌/◌, ◌==◌, cond}
 use Rattle.std.specs.List.{flat_map}
 use Rattle.dt_kinds.specs.declared.kind.Rep.{Rep}
-use Rattle.dt_map.specs.Numbers.{below}
+use Rattle.dt_offsets.specs.Offsets.{below}
 use Rattle.dt_map.specs.Typemap.{Marked}
 use Rattle.dt_map.specs.Packed.{total}
 use Rattle.dt_map.specs.Setting.{done}

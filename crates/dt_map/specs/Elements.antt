@@ -1,7 +1,7 @@
 use Rattle.std.specs.Prelude.{ℕ, ◌<◌, Bool, ◌&&◌, ◌+ℤ◌, ◌*ℤ◌, ℤ, ◌≤ℤ◌, ◌<ℤ◌, pos, int_le, List, length}
 use Rattle.std.specs.List.{flat_map, list_all, HoldsAt}
-use Rattle.dt_map.specs.declared.typemap.Entry.{Entry}
-use Rattle.dt_map.specs.Numbers.{below}
+use Rattle.dt_map.specs.declared.entry.Entry.{Entry}
+use Rattle.dt_offsets.specs.Offsets.{below}
 use Rattle.dt_map.specs.Typemap.{Marked, shift}
 use Rattle.dt_map.specs.Bounds.{extent_of, end_of}
 

@@ -2,11 +2,13 @@ use Rattle.std.specs.Prelude.{◌≡◌, ℕ, suc, ◌+◌, ◌-◌, ◌*◌, �
 use Rattle.std.specs.Int.{int_min, int_max}
 use Rattle.std.specs.List.{flat_map, All}
 use Rattle.dt_kinds.specs.declared.kind.Rep.{Rep}
+use Rattle.dt_kinds.specs.declared.displacement.TheConstants.{DISP_MAX}
 use Rattle.dt_kinds.specs.Displacement.{FitsDisp}
 use Rattle.dt_kinds.specs.Kind.{packed_size}
 use Rattle.dt_kinds.specs.Image.{restore}
-use Rattle.dt_map.specs.declared.typemap.Entry.{Entry}
-use Rattle.dt_map.specs.Numbers.{below, padding}
+use Rattle.dt_map.specs.declared.entry.Entry.{Entry}
+use Rattle.dt_offsets.specs.Offsets.{below}
+use Rattle.dt_map.specs.Numbers.{padding}
 use Rattle.dt_map.specs.Typemap.{Marked, shift}
 use Rattle.dt_map.specs.Bounds.{bounds_of, alignment, true_lb, true_ub, natural_ub, extent_of, lower, upper}
 use Rattle.dt_map.specs.Placing.{place}
@@ -16,7 +18,7 @@ use Rattle.dt_map.specs.Limits.{Fits}
 use Rattle.dt_map.specs.Packed.{packed, total}
 use Rattle.dt_map.specs.Setting.{done, set_each}
 use Rattle.dt_map.specs.Summary.{summary_of, no_summary, shifted, joined, copied, bounds_from}
-use Rattle.dt_map.specs.Span.{reach_of, stretched}
+use Rattle.dt_offsets.specs.Span.{reach_of, stretched}
 
 -- the padding makes a number a multiple, and no lesser one does
 abbrev pub PaddingIsLeast : Type 0
@@ -47,26 +49,6 @@ SummaryOfJoined =
 -- the summary of copies at offsets takes their number and their reach alone
 abbrev pub SummaryOfCopies : Type 0
 SummaryOfCopies = (offsets : List ℤ) (m : Marked) → summary_of (copies_at offsets m) ≡ copied (reach_of offsets) (length offsets) (summary_of m)
-
--- the reach of n + 1 offsets with an even step, which may be negative
-abbrev pub ReachOfEven : Type 0
-ReachOfEven =
-    (first step : ℤ) (n : ℕ) → reach_of (map (λ i. first +ℤ (pos i *ℤ step)) (below (suc n)))
-    ≡ Some (record { lb = int_min first (first +ℤ (pos n *ℤ step)); ub = int_max first (first +ℤ (pos n *ℤ step)) })
-
--- each of some offsets from each of others on, block by block
-abbrev pub sums : List ℤ → List ℤ → List ℤ
-sums xs ys = flat_map (λ x. map (λ y. y +ℤ x) ys) xs
-
--- the reach of sums of offsets is the sum of their reaches
-abbrev pub ReachOfSums : Type 0
-ReachOfSums = (xs ys : List ℤ) → reach_of (sums xs ys) ≡ stretched (reach_of xs) (reach_of ys)
-
--- n whole rows of b and r of a last one, counted through by one number
-abbrev pub InRows : Type 0
-InRows =
-    (f : ℕ → ℕ → ℤ) (b n r : ℕ) → r ≤ b → map (λ q. f (q / b) (q % b)) (below (n * b + r))
-    ≡ flat_map (λ i. map (f i) (below b)) (below n) ++ map (f n) (below r)
 
 -- the elements are what copies at multiples of the extent place, from the origin on
 abbrev pub ElementsArePlaced : Type 0
@@ -124,4 +106,4 @@ SettingSetsEach =
 abbrev pub BoundsAreInRange : Type 0
 BoundsAreInRange =
     (m : Marked) → Fits m → FitsDisp (true_lb m.entries) × FitsDisp (true_ub m.entries) × FitsDisp (lower m)
-    × (negsuc 1152921504606846975 ≤ℤ upper m) × (upper m ≤ℤ pos 1152921504606846983)
+    × ((pos 0 -ℤ DISP_MAX) ≤ℤ upper m) × (upper m ≤ℤ (DISP_MAX +ℤ pos 7))

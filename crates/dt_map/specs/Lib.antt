@@ -1,6 +1,7 @@
 pub mod Bounds
 pub mod Constructors
 pub mod Counts
+pub mod Digest
 pub mod Elements
 pub mod Laws
 pub mod Limits

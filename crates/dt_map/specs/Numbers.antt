@@ -1,11 +1,6 @@
 use Rattle.std.specs.Prelude.{Option, Some, None, ℕ, zero, suc, ◌-◌, ◌%◌, ℤ, List, [], ◌∷◌, ◌++◌}
 use Rattle.std.specs.Int.{int_min, int_max}
 
--- 0, 1, .. without n
-abbrev pub below : ℕ → List ℕ
-below zero = []
-below (suc n) = below n ++ n ∷ []
-
 -- the lesser of two numbers, where either may be missing
 abbrev pub lesser : Option ℤ → Option ℤ → Option ℤ
 lesser None y = y

@@ -3,7 +3,7 @@ use Rattle.std.specs.List.{flat_map, sum_by}
 use Rattle.dt_kinds.specs.declared.kind.Rep.{Rep}
 use Rattle.dt_kinds.specs.Kind.{native_size, packed_size}
 use Rattle.dt_kinds.specs.Image.{image}
-use Rattle.dt_map.specs.declared.typemap.Entry.{Entry}
+use Rattle.dt_map.specs.declared.entry.Entry.{Entry}
 
 -- the bytes of an element that lies inside a buffer
 abbrev pub bytes_at : List ℕ → Entry → List ℕ

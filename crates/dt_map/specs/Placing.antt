@@ -1,14 +1,8 @@
 use Rattle.std.specs.Prelude.{Option, Some, None, ℤ, List, [], ◌∷◌}
 use Rattle.std.specs.List.{flat_map}
-use Rattle.std.specs.Int.{int_min, int_max}
-use Rattle.dt_map.specs.declared.typemap.Marks.{Marks}
-use Rattle.dt_map.specs.Typemap.{Marked, shift, shift_marks}
-
--- the marks around two pairs of marks, where either may be missing (MPI 4.1, section 5.1.6)
-abbrev pub joined_marks : Option Marks → Option Marks → Option Marks
-joined_marks None b = b
-joined_marks (Some a) None = Some a
-joined_marks (Some a) (Some b) = Some (record { lb = int_min a.lb b.lb; ub = int_max a.ub b.ub })
+use Rattle.dt_offsets.specs.declared.marks.Marks.{Marks}
+use Rattle.dt_map.specs.Typemap.{Marked, shift}
+use Rattle.dt_offsets.specs.Span.{shift_marks, joined_marks}
 
 -- the least shifted lower mark and the greatest shifted upper mark of the members that have marks
 abbrev pub placed_marks : List (ℤ × Marked) → Option Marks

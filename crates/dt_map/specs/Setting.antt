@@ -2,7 +2,7 @@ use Rattle.std.specs.Prelude.{ℕ, suc, ◌+◌, ◌-◌, cond, nat_le, nat_abs,
 use Rattle.dt_kinds.specs.declared.kind.Rep.{Rep}
 use Rattle.dt_kinds.specs.Kind.{packed_size}
 use Rattle.dt_kinds.specs.Image.{restore}
-use Rattle.dt_map.specs.declared.typemap.Entry.{Entry}
+use Rattle.dt_map.specs.declared.entry.Entry.{Entry}
 
 -- how many leading elements have all their packed bytes among the first n (law `done_is_greatest`)
 abbrev pub done : Rep → List Entry → ℕ → ℕ

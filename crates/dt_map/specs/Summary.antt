@@ -1,10 +1,10 @@
-use Rattle.std.specs.Prelude.{Option, Some, None, ℕ, zero, suc, ◌+◌, ◌*◌, max, ℤ, pos, length}
-use Rattle.dt_map.specs.declared.typemap.Marks.{Marks}
-use Rattle.dt_map.specs.declared.typemap.Bounds.{Bounds}
-use Rattle.dt_map.specs.Typemap.{Marked, shift_marks}
+use Rattle.std.specs.Prelude.{Option, Some, None, ℕ, zero, suc, ◌+◌, ◌*◌, ◌==◌, cond, max, ℤ, pos, length}
+use Rattle.dt_offsets.specs.declared.marks.Marks.{Marks}
+use Rattle.dt_map.specs.declared.bounds.Bounds.{Bounds}
+use Rattle.dt_map.specs.Typemap.{Marked}
+use Rattle.dt_offsets.specs.Span.{shift_marks, joined_marks, stretched}
 use Rattle.dt_map.specs.Bounds.{size_of, external_size_of, alignment, natural_end}
-use Rattle.dt_map.specs.Placing.{joined_marks}
-use Rattle.dt_map.specs.Span.{span_of, stretched}
+use Rattle.dt_map.specs.Span.{span_of}
 
 -- all that the bounds of a marked typemap are made from, in a form that copies and joins by arithmetic
 pub record Summary : Type 0 where
@@ -67,31 +67,32 @@ copied reach n s = record {
   marks = stretched reach s.marks;
 }
 
+-- the true bounds that a span tells, 0 where there is none
+abbrev pub ends_or_zero : Option Marks → Marks
+ends_or_zero None = record { lb = pos 0; ub = pos 0 }
+ends_or_zero (Some span) = span
+
+-- the bounds: the marks, or the true bounds with the upper one rounded
+abbrev pub outer_ends : Marks → ℕ → Option Marks → Marks
+outer_ends ends align None = record { lb = ends.lb; ub = natural_end ends.lb ends.ub align }
+outer_ends ends align (Some marks) = marks
+
 -- the bounds that a summary gives
-abbrev pub lb_or_zero : Option Marks → ℤ
-lb_or_zero None = pos 0
-lb_or_zero (Some m) = m.lb
-
-abbrev pub ub_or_zero : Option Marks → ℤ
-ub_or_zero None = pos 0
-ub_or_zero (Some m) = m.ub
-
-abbrev pub lb_from : Option Marks → Option Marks → ℤ
-lb_from None span = lb_or_zero span
-lb_from (Some marks) span = marks.lb
-
-abbrev pub ub_from : Option Marks → Option Marks → ℕ → ℤ
-ub_from None span align = natural_end (lb_or_zero span) (ub_or_zero span) align
-ub_from (Some marks) span align = marks.ub
-
 abbrev pub bounds_from : Summary → Bounds
-bounds_from s = record {
-  size = s.size;
-  ext_size = s.ext_size;
-  elements = s.elements;
-  align = s.align;
-  true_lb = lb_or_zero s.span;
-  true_ub = ub_or_zero s.span;
-  lb = lb_from s.marks s.span;
-  ub = ub_from s.marks s.span s.align;
-}
+bounds_from s =
+    let ends = ends_or_zero s.span in
+    let outer = outer_ends ends s.align s.marks in
+    record {
+      size = s.size;
+      ext_size = s.ext_size;
+      elements = s.elements;
+      align = s.align;
+      true_lb = ends.lb;
+      true_ub = ends.ub;
+      lb = outer.lb;
+      ub = outer.ub;
+    }
+
+-- the span that true bounds tell, where there is an entry
+abbrev pub true_span : Bounds → Option Marks
+true_span b = cond (b.elements == 0) None (Some (record { lb = b.true_lb; ub = b.true_ub }))

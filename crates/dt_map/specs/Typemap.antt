@@ -1,6 +1,6 @@
 use Rattle.std.specs.Prelude.{Option, Some, None, ◌+ℤ◌, ℤ, List, map}
-use Rattle.dt_map.specs.declared.typemap.Entry.{Entry}
-use Rattle.dt_map.specs.declared.typemap.Marks.{Marks}
+use Rattle.dt_map.specs.declared.entry.Entry.{Entry}
+use Rattle.dt_offsets.specs.declared.marks.Marks.{Marks}
 
 -- a typemap (MPI 4.1, section 5.1) with its lower and upper marks, where it has them (section 5.1.6)
 pub record Marked : Type 0 where
@@ -14,8 +14,3 @@ shift_entry x e = record { kind = e.kind; disp = e.disp +ℤ x }
 -- a typemap x bytes further on
 abbrev pub shift : ℤ → List Entry → List Entry
 shift x entries = map (shift_entry x) entries
-
--- marks x bytes further on
-abbrev pub shift_marks : ℤ → Option Marks → Option Marks
-shift_marks x None = None
-shift_marks x (Some m) = Some (record { lb = m.lb +ℤ x; ub = m.ub +ℤ x })

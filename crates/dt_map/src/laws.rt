@@ -1,5 +1,5 @@
 //! Laws of bounds, placing and setting, stated over their definitions. The functions do nothing.
-ghost use Rattle.dt_map.specs.Laws.{PaddingIsLeast, NaturalIsLeast, BoundsFromSummary, SummaryOfNone, SummaryOfShifted, SummaryOfJoined, SummaryOfCopies, ReachOfEven, ReachOfSums, InRows, PlacingOfPlacing, ElementsArePlaced, ElementsOfMore, TotalOfElements, DoneIsGreatest, PackedHasTotal, SettingKeepsTheRest, SettingSetsEach, BoundsAreInRange};
+ghost use Rattle.dt_map.specs.Laws.{PaddingIsLeast, NaturalIsLeast, BoundsFromSummary, SummaryOfNone, SummaryOfShifted, SummaryOfJoined, SummaryOfCopies, PlacingOfPlacing, ElementsArePlaced, ElementsOfMore, TotalOfElements, DoneIsGreatest, PackedHasTotal, SettingKeepsTheRest, SettingSetsEach, BoundsAreInRange};
 
 /// The padding makes a number a multiple of another, and no lesser one does.
 pub fn padding_is_least()
@@ -36,21 +36,6 @@ pub fn summary_of_joined()
 /// Copies of one typemap at offsets: their number and the least and greatest offset are all that it takes.
 pub fn summary_of_copies()
     ensures { SummaryOfCopies }
-{}
-
-/// The reach of offsets with an even step, which may be negative: the first and the last one.
-pub fn reach_of_even()
-    ensures { ReachOfEven }
-{}
-
-/// The reach of sums of offsets is the sum of their reaches.
-pub fn reach_of_sums()
-    ensures { ReachOfSums }
-{}
-
-/// Whole rows and a part of a last one, counted through by one number.
-pub fn in_rows()
-    ensures { InRows }
 {}
 
 /// Placing what was placed is placing once, at the sums of the offsets.

@@ -1,7 +1,14 @@
 //! Typemaps of MPI datatypes as plain lists, with their bounds.
 #![tactic(auto)]
 
+pub mod bounds;
+pub mod digest;
+pub mod entry;
+pub mod flat_map;
 pub mod laws;
-pub mod typemap;
 
-pub use typemap::{Bounds, Entry, FlatMap, MapFault, Marks};
+pub use bounds::{Bounds, SIZE_MAX};
+pub use digest::Digest;
+pub use dt_offsets::Marks;
+pub use entry::Entry;
+pub use flat_map::{FlatMap, MapFault};

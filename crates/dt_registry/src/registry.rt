@@ -32,7 +32,7 @@ pub struct Registry {
 }
 
 impl Model for Registry {
-    ghost use Rattle.dt_registry.specs.Registry.{Registry as Seen};
+    ghost use Rattle.dt_registry.specs.Registry.{Registry as Seen, HoldsEarlier};
 
     ghost Value = { Seen };
 
@@ -43,7 +43,6 @@ impl Model for Registry {
 
     ghost view = { λ r. record { made = r.made; slots = r.slots.slots } };
 
-    ghost use Rattle.dt_registry.specs.Registry.{HoldsEarlier};
 
     ghost invariant = { λ r. HoldsEarlier r.made r.slots.slots };
 }

@@ -6,7 +6,7 @@ use Rattle.std.proofs.Common.{refl, arith, T}
 use denote.Hole.Carrier.{out, roll}
 use Rattle.dt_kinds.specs.declared.kind.Kind.TheVariants.{Byte, Int}
 use Rattle.dt_kinds.specs.Displacement.{FitsDisp}
-use Rattle.dt_map.specs.declared.typemap.Marks.{Marks}
+use Rattle.dt_offsets.specs.declared.marks.Marks.{Marks}
 use Rattle.dt_type.specs.declared.datatype.Seen.{Seen, out-Seen, roll-Seen}
 use Rattle.dt_type.specs.declared.form.Dist.TheVariants.{Cyclic}
 use Rattle.dt_type.specs.declared.form.DistDim.{DistDim}
@@ -15,10 +15,11 @@ use Rattle.dt_type.specs.declared.form.Order.TheVariants.{C}
 use Rattle.dt_type.specs.declared.form.SubDim.{SubDim}
 use Rattle.dt_type.specs.declared.shape.Cover.TheVariants.{Erase}
 use Rattle.dt_type.specs.declared.shape.ShapeOf.TheVariants.{Grid}
-use Rattle.dt_type.specs.declared.shape.Turns.{Turns}
-use Rattle.dt_type.specs.Conditions.{AreTurns, HasNumbers, IsShapeFor}
+use Rattle.dt_offsets.specs.declared.turns.Turns.{Turns}
+use Rattle.dt_type.specs.Conditions.{AreShapeTurns, HasNumbers, IsShapeFor}
 use Rattle.dt_type.specs.Form.{map_by, result_of}
-use Rattle.dt_type.specs.Shape.{grid_offsets, placed_by, covered}
+use Rattle.dt_offsets.specs.Offsets.{grid_offsets}
+use Rattle.dt_type.specs.Shape.{placed_by, covered}
 
 abbrev byte : Seen
 byte = result_of (Named Byte)
@@ -102,8 +103,8 @@ two_near x y at then = (at, (then, tt))
 
 backward_numbers : HasNumbers (Grid backward_turns falling)
 backward_numbers =
-    let rows : AreTurns backward_rows = record { first = omega arith; jump = omega arith; step = omega arith; least = omega arith; most = omega arith; count = omega arith } in
-    let columns : AreTurns backward_columns = record { first = omega arith; jump = omega arith; step = omega arith; least = omega arith; most = omega arith; count = omega arith } in
+    let rows : AreShapeTurns backward_rows = record { first = omega arith; jump = omega arith; step = omega arith; least = omega arith; most = omega arith; count = omega arith } in
+    let columns : AreShapeTurns backward_columns = record { first = omega arith; jump = omega arith; step = omega arith; least = omega arith; most = omega arith; count = omega arith } in
     let steps = two_near (pos 0) (negsuc 11) (near tt tt) (near tt tt) in
     let sides = two_near (negsuc 3) (negsuc 7) (near tt tt) (near tt tt) in
     ((rows, (columns, tt)), ((steps, (sides, tt)), sums_near))

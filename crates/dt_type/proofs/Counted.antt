@@ -4,8 +4,8 @@ use Rattle.std.proofs.Common.{arith, sym, subst}
 use Rattle.std.proofs.lemmas.List.Sums.{sum_by-cons}
 use Rattle.dt_kinds.specs.Kind.{native_size, external_size}
 use Rattle.dt_kinds.proofs.Table.{native_size-pos, external_is_no_larger}
-use Rattle.dt_map.specs.declared.typemap.Bounds.{Bounds}
-use Rattle.dt_map.specs.declared.typemap.Entry.{Entry}
+use Rattle.dt_map.specs.declared.bounds.Bounds.{Bounds}
+use Rattle.dt_map.specs.declared.entry.Entry.{Entry}
 use Rattle.dt_map.specs.Bounds.{size_of, external_size_of}
 use Rattle.dt_map.proofs.Extremes.{alignment-pos, alignment-le}
 use Rattle.dt_type.specs.declared.datatype.Node.{Node}

@@ -1,20 +1,20 @@
 -- The bounds that a digest tells are those of the typemap.
 use Rattle.std.specs.Prelude.{◌≡◌, Option, Some, None, ℕ, ◌≤◌, List, length}
 use Rattle.std.proofs.Common.{refl, sym, ap, subst, ◌∙◌, arith}
-use Rattle.dt_map.specs.declared.typemap.Bounds.{Bounds}
-use Rattle.dt_map.specs.declared.typemap.Entry.{Entry}
-use Rattle.dt_map.specs.declared.typemap.Marks.{Marks}
+use Rattle.dt_map.specs.declared.bounds.Bounds.{Bounds}
+use Rattle.dt_map.specs.declared.entry.Entry.{Entry}
+use Rattle.dt_offsets.specs.declared.marks.Marks.{Marks}
 use Rattle.dt_map.specs.Bounds.{bounds_of, size_of, external_size_of, alignment, true_lb, true_ub}
 use Rattle.dt_map.specs.Span.{span_of}
 use Rattle.dt_map.specs.Summary.{lb_or_zero, ub_or_zero}
 use Rattle.dt_map.specs.Typemap.{Marked}
 use Rattle.dt_map.proofs.Summaries.{true_lb_is, true_ub_is}
-use Rattle.dt_type.specs.Datatype.{AreInRange, IsInRange}
+use Rattle.dt_map.specs.Limits.{AreInRange, IsInRange}
 use Rattle.dt_type.specs.Digest.{digest_of}
 use Rattle.dt_type.specs.Range.{ends_of, outer_ends, bounds_from}
-use Rattle.dt_type.specs.Reach.{capped}
+use Rattle.dt_offsets.specs.Reach.{capped}
 use Rattle.dt_type.proofs.Counted.{elements_fit, external_fits}
-use Rattle.dt_type.proofs.Reaches.{below_most}
+use Rattle.dt_offsets.proofs.Reaches.{below_most}
 
 abbrev true_ends : List Entry → Marks
 true_ends es = record { lb = true_lb es; ub = true_ub es }

@@ -5,8 +5,8 @@ use Rattle.std.proofs.Common.{refl, sym, ap, ◌∙◌, arith}
 use Rattle.std.proofs.lemmas.Grind.{flat_map-append}
 use Rattle.std.proofs.lemmas.Bool.Decides.{nat_tests}
 use Rattle.std.proofs.lemmas.List.{append-nil, take_more}
-use Rattle.dt_map.specs.declared.typemap.Bounds.{Bounds}
-use Rattle.dt_map.specs.declared.typemap.Marks.{Marks}
+use Rattle.dt_map.specs.declared.bounds.Bounds.{Bounds}
+use Rattle.dt_offsets.specs.declared.marks.Marks.{Marks}
 use Rattle.dt_map.specs.Bounds.{size_of, external_size_of, alignment, bounds_of}
 use Rattle.dt_map.specs.Constructors.{copies_at}
 use Rattle.dt_map.specs.Placing.{place}
@@ -16,11 +16,13 @@ use Rattle.dt_map.proofs.Summaries.{summary_of_joined, summary_of_copies}
 use Rattle.dt_type.specs.declared.datatype.Seen.{Seen}
 use Rattle.dt_type.specs.declared.shape.ShapePartOf.{ShapePartOf}
 use Rattle.dt_type.specs.declared.digest.Digest.{Digest}
-use Rattle.dt_type.specs.Datatype.{typemap_of, IsInRange}
+use Rattle.dt_type.specs.Datatype.{typemap_of}
+use Rattle.dt_map.specs.Limits.{IsInRange}
 use Rattle.dt_type.specs.Digest.{digest_of, repeated, joined, true_span}
-use Rattle.dt_type.specs.Reach.{capped, reach}
-use Rattle.dt_type.specs.Shape.{part_members, placed_parts, row_offsets}
-use Rattle.dt_type.proofs.Reaches.{below_most, capped-add, capped-mul, capped-mul-left}
+use Rattle.dt_offsets.specs.Reach.{capped, reach}
+use Rattle.dt_type.specs.Shape.{part_members, placed_parts}
+use Rattle.dt_offsets.specs.Offsets.{row_offsets}
+use Rattle.dt_offsets.proofs.Reaches.{below_most, capped-add, capped-mul, capped-mul-left}
 use Rattle.dt_type.proofs.TrueSpans.{true_span_is}
 
 pub length-copies : (xs : List ℤ) (m : Marked) → length (copies_at xs m).entries ≡ length xs * length m.entries

@@ -7,14 +7,13 @@ use Rattle.std.proofs.lemmas.Int.{ints, clamps}
 use Rattle.std.proofs.lemmas.Option.{slice_get-get_or}
 use Rattle.dt_kinds.specs.Displacement.{FitsDisp}
 use Rattle.dt_kinds.specs.Kind.{native_size}
-use Rattle.dt_map.specs.declared.typemap.Entry.{Entry}
-use Rattle.dt_map.specs.declared.typemap.Marks.{Marks}
+use Rattle.dt_map.specs.declared.entry.Entry.{Entry}
+use Rattle.dt_offsets.specs.declared.marks.Marks.{Marks}
 use Rattle.dt_map.specs.Bounds.{end_of, true_lb, true_ub}
-use Rattle.dt_map.specs.Limits.{EntryFits, MarksFit, Fits}
-use Rattle.dt_map.specs.Placing.{joined_marks}
+use Rattle.dt_map.specs.Limits.{EntryFits, MarksFit, Fits, IsInRange}
+use Rattle.dt_offsets.specs.Span.{joined_marks}
 use Rattle.dt_map.specs.Typemap.{Marked, shift_entry}
 use Rattle.dt_map.specs.Span.{span_of, entry_span}
-use Rattle.dt_type.specs.Datatype.{IsInRange}
 use Rattle.dt_type.proofs.TrueSpans.{true_span_is}
 
 Holds : Entry → Option Marks → Type 0

@@ -9,18 +9,16 @@ use Rattle.std.proofs.lemmas.List.{take_all, take_more}
 use Rattle.std.proofs.lemmas.Option.{slice_get-map, slice_get-get_or, get_or_from_slice_get}
 use Rattle.std.proofs.Math.Nat.{mod-lt, div-lt_iff_lt-mul, div-div-eq-div-mul, mul_assoc, mul_comm, mul-div_cancel_left}
 use Rattle.std.proofs.Math.Seq.{drop-cons}
-use Rattle.dt_map.specs.declared.typemap.Marks.{Marks}
-use Rattle.dt_map.specs.Numbers.{below}
-use Rattle.dt_map.specs.Placing.{joined_marks}
-use Rattle.dt_map.specs.Span.{reach_of, point}
-use Rattle.dt_type.specs.declared.shape.Turns.{Turns}
-use Rattle.dt_type.specs.Conditions.{AreTurns, AreNested}
-use Rattle.dt_type.specs.Shape.{row_offsets, turn_offset, turn_offsets, grid_offsets}
+use Rattle.dt_offsets.specs.declared.marks.Marks.{Marks}
+use Rattle.dt_offsets.specs.Offsets.{below, row_offsets, turn_offset, turn_offsets, grid_offsets}
+use Rattle.dt_offsets.specs.Span.{joined_marks, reach_of, point}
+use Rattle.dt_offsets.specs.declared.turns.Turns.{Turns}
+use Rattle.dt_type.specs.Conditions.{AreShapeTurns, AreNested}
 use Rattle.dt_type.specs.Span.{IsNear}
 use Rattle.dt_type.proofs.GridNear.{grid_whole_near}
-use Rattle.dt_type.proofs.Lookups.{sum_at, slice_get-left, slice_get-right, grid-inner}
-use Rattle.dt_type.proofs.Near.{grid_near}
-use Rattle.dt_type.proofs.Reaches.{sums, length-sums, length-below, count-turns}
+use Rattle.dt_offsets.proofs.Lookups.{sum_at, slice_get-left, slice_get-right, grid-inner}
+use Rattle.dt_offsets.proofs.NearNumbers.{grid_near}
+use Rattle.dt_offsets.proofs.Reaches.{sums, length-sums, length-below, count-turns}
 
 -- an offset lies between the ends of the span
 Between : ℤ → Option Marks → Type 0
@@ -155,14 +153,14 @@ module _ (ts : List Turns) (i : ℕ) (d : Turns) (copy left : ℕ) (lt : i < len
   pub next : get_or (grid_offsets (take (i + 1) ts)) (copy / (left / here.count)) (pos 0) ≡ get_or (grid_offsets (take i ts)) (copy / left) (pos 0) +ℤ turn_offset here (copy / (left / here.count) % here.count)
   next = subst (λ n. get_or (grid_offsets (take (i + 1) ts)) (copy / n) (pos 0) ≡ get_or (grid_offsets (take i ts)) (copy / left) (pos 0) +ℤ turn_offset here (copy / n % here.count)) (sym divided) next_value
 
-  next_near : AllByRecursion AreTurns ts → AreNested ts → IsNear (reach_of (grid_offsets (take (i + 1) ts)))
+  next_near : AllByRecursion AreShapeTurns ts → AreNested ts → IsNear (reach_of (grid_offsets (take (i + 1) ts)))
   next_near all nested =
       elim (cases_lt (i + 1) (length ts)) [
         | inl more ↦ grid_near ts nested (i + 1) more
         | inr last ↦ subst (λ (us : List Turns). IsNear (reach_of (grid_offsets us))) (sym (take_all (i + 1) ts last)) (grid_whole_near ts all nested)
       ]
 
-  pub next_fits : AllByRecursion AreTurns ts → AreNested ts
+  pub next_fits : AllByRecursion AreShapeTurns ts → AreNested ts
       → nat_abs (get_or (grid_offsets (take i ts)) (copy / left) (pos 0) +ℤ turn_offset here (copy / (left / here.count) % here.count)) < 2 ^ 126
   next_fits all nested =
       let counts = count-turns here in

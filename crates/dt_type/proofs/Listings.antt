@@ -9,25 +9,26 @@ use Rattle.std.proofs.lemmas.List.Folds.{flat_map-map}
 use Rattle.std.proofs.lemmas.Option.{get_or_from_slice_get}
 use Rattle.std.proofs.Math.Nat.{mul-div_cancel}
 use Rattle.dt_kinds.specs.Displacement.{FitsDisp}
-use Rattle.dt_map.specs.declared.typemap.Entry.{Entry}
+use Rattle.dt_map.specs.declared.entry.Entry.{Entry}
 use Rattle.dt_map.specs.Constructors.{copies_at}
-use Rattle.dt_map.specs.Limits.{EntryFits}
-use Rattle.dt_map.specs.Numbers.{below}
+use Rattle.dt_map.specs.Limits.{EntryFits, IsInRange}
+use Rattle.dt_offsets.specs.Offsets.{below, row_offsets, grid_offsets, spot_offsets}
 use Rattle.dt_map.specs.Typemap.{Marked, shift}
 use Rattle.dt_type.specs.declared.datatype.Seen.{Seen}
 use Rattle.dt_type.specs.declared.shape.ShapeOf.{ShapeOf}
 use Rattle.dt_type.specs.declared.shape.ShapeOf.TheVariants.{Grid, Each, Seq}
 use Rattle.dt_type.specs.declared.shape.ShapePartOf.{ShapePartOf}
-use Rattle.dt_type.specs.declared.shape.Spot.{Spot}
-use Rattle.dt_type.specs.declared.shape.Turns.{Turns}
-use Rattle.dt_type.specs.Datatype.{typemap_of, entries_of, IsInRange}
+use Rattle.dt_offsets.specs.declared.turns.Spot.{Spot}
+use Rattle.dt_offsets.specs.declared.turns.Turns.{Turns}
+use Rattle.dt_type.specs.Datatype.{typemap_of, entries_of}
 use Rattle.dt_type.specs.Listing.{entries_at, HaveDisps}
-use Rattle.dt_type.specs.Shape.{row_offsets, grid_offsets, spot_offsets, placed_by, placed_parts}
+use Rattle.dt_type.specs.Shape.{placed_by, placed_parts}
 use Rattle.dt_type.proofs.Digests.{length-copies}
 use Rattle.dt_type.proofs.EntryFits.{entries_fit}
-use Rattle.dt_type.proofs.GridAt.{pos_right, row_at}
-use Rattle.dt_type.proofs.Lookups.{part_entries, entries-parts, flat_map-flat_map}
-use Rattle.dt_type.proofs.Reaches.{count-row}
+use Rattle.dt_offsets.proofs.GridAt.{pos_right, row_at}
+use Rattle.dt_type.proofs.Lookups.{part_entries, entries-parts}
+use Rattle.dt_offsets.proofs.Lookups.{flat_map-flat_map}
+use Rattle.dt_offsets.proofs.Reaches.{count-row}
 
 -- what is appended after what was appended before
 pub after : {A : Type 0} (old mid new before here all : List A) → mid ≡ old ++ before → new ≡ mid ++ here → before ++ here ≡ all → new ≡ old ++ all

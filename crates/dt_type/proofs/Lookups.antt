@@ -11,17 +11,18 @@ use Rattle.std.proofs.lemmas.Nat.{div-add-mod'}
 use Rattle.std.proofs.lemmas.Option.{slice_get-map, slice_get-get_or}
 use Rattle.std.proofs.Math.Nat.{mod-lt, div-lt_iff_lt-mul}
 use Rattle.std.proofs.Math.Seq.{drop-cons}
-use Rattle.dt_map.specs.declared.typemap.Entry.{Entry}
+use Rattle.dt_map.specs.declared.entry.Entry.{Entry}
 use Rattle.dt_map.specs.Constructors.{copies_at}
 use Rattle.dt_map.specs.Placing.{place}
 use Rattle.dt_map.specs.Typemap.{Marked, shift, shift_entry}
 use Rattle.dt_type.specs.declared.datatype.Seen.{Seen}
 use Rattle.dt_type.specs.declared.shape.ShapePartOf.{ShapePartOf}
-use Rattle.dt_type.specs.declared.shape.Turns.{Turns}
+use Rattle.dt_offsets.specs.declared.turns.Turns.{Turns}
 use Rattle.dt_type.specs.Datatype.{typemap_of}
-use Rattle.dt_type.specs.Shape.{row_offsets, part_members, placed_parts, turn_offsets, grid_offsets}
+use Rattle.dt_offsets.specs.Offsets.{row_offsets, turn_offsets, grid_offsets}
+use Rattle.dt_type.specs.Shape.{part_members, placed_parts}
 use Rattle.dt_type.proofs.Digests.{length-copies}
-use Rattle.dt_type.proofs.Reaches.{sums, count-row}
+use Rattle.dt_offsets.proofs.Reaches.{sums, count-row}
 
 pub slice_get-left : {X : Type 0} (a b : List X) (j : ℕ) → j < length a → slice_get (a ++ b) j ≡ slice_get a j
 slice_get-left [] b j h = absurd (omega arith)

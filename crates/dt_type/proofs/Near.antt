@@ -6,15 +6,14 @@ use Rattle.std.proofs.lemmas.Int.{ints, clamps}
 use Rattle.std.proofs.lemmas.List.{map-append}
 use Rattle.std.proofs.Math.Nat.{mod-lt, div-le_of_le-mul}
 use Rattle.dt_kinds.specs.Displacement.{FitsDisp}
-use Rattle.dt_map.specs.declared.typemap.Marks.{Marks}
-use Rattle.dt_map.specs.Numbers.{below}
-use Rattle.dt_map.specs.Placing.{joined_marks}
-use Rattle.dt_map.specs.Span.{point, reach_of}
-use Rattle.dt_type.specs.declared.shape.Turns.{Turns}
-use Rattle.dt_type.specs.Conditions.{IsFactor, AreTurns, AreNested}
-use Rattle.dt_type.specs.Shape.{row_offsets, turn_offset, turn_offsets, grid_offsets}
+use Rattle.dt_offsets.specs.declared.marks.Marks.{Marks}
+use Rattle.dt_offsets.specs.Offsets.{below, row_offsets, turn_offset, turn_offsets, grid_offsets}
+use Rattle.dt_offsets.specs.Span.{joined_marks, point, reach_of}
+use Rattle.dt_offsets.specs.declared.turns.Turns.{Turns}
+use Rattle.dt_offsets.specs.Near.{IsFactor}
+use Rattle.dt_type.specs.Conditions.{AreShapeTurns, AreNested}
 use Rattle.dt_type.specs.Span.{IsWithin, IsNear}
-use Rattle.dt_type.proofs.Products.{product_near}
+use Rattle.dt_offsets.proofs.Products.{product_near}
 
 pub joined_within : (n : ℕ) (a b : Option Marks) → IsWithin n a → IsWithin n b → IsWithin n (joined_marks a b)
 joined_within n None b h k = k
@@ -40,13 +39,13 @@ row_near first step n factor near =
     reach_within (2 ^ 126) (row_offsets first n step) (all_below (λ x. nat_abs x < 2 ^ 126) (λ j. first +ℤ (pos j *ℤ step)) n
     (λ j h. let p = product_near j step factor in omega (arith, ints)))
 
-block_of : (t : Turns) → AreTurns t → (q : ℕ) → q < t.count → q / t.block ≤ 2147483648
+block_of : (t : Turns) → AreShapeTurns t → (q : ℕ) → q < t.count → q / t.block ≤ 2147483648
 block_of t turns q h = let most = turns.count in div-le_of_le-mul t.block (omega arith)
 
-pub blocks_of : (t : Turns) → AreTurns t → t.count / t.block ≤ 2147483648
+pub blocks_of : (t : Turns) → AreShapeTurns t → t.count / t.block ≤ 2147483648
 blocks_of t turns = let most = turns.count in div-le_of_le-mul t.block (omega arith)
 
-pub turns_near : (t : Turns) → AreTurns t → IsNear (reach_of (turn_offsets t))
+pub turns_near : (t : Turns) → AreShapeTurns t → IsNear (reach_of (turn_offsets t))
 turns_near t turns =
     reach_within (2 ^ 126) (turn_offsets t) (all_below (λ x. nat_abs x < 2 ^ 126) (turn_offset t) t.count
     (λ q h.
@@ -72,7 +71,7 @@ pub disps_near : (xs : List ℤ) → AllByRecursion FitsDisp xs → IsNear (reac
 disps_near xs h = within_more (2 ^ 61) (2 ^ 126) (reach_of xs) (omega arith) (reach_within (2 ^ 61) xs (disps_within xs h))
 
 -- where the last block of turns begins, and how far its turns may reach
-pub last_near : (t : Turns) → AreTurns t → nat_abs (t.first +ℤ (pos (t.count / t.block) *ℤ t.jump)) + t.count % t.block * 2 ^ 93 < 2 ^ 126
+pub last_near : (t : Turns) → AreShapeTurns t → nat_abs (t.first +ℤ (pos (t.count / t.block) *ℤ t.jump)) + t.count % t.block * 2 ^ 93 < 2 ^ 126
 last_near t turns =
     let first = turns.first in
     let most = turns.most in
@@ -82,13 +81,13 @@ last_near t turns =
     let rest : t.count % t.block < t.block = mod-lt t.count (omega arith) in
     omega (arith, ints)
 
-pub outer_near : (t : Turns) → AreTurns t → IsNear (reach_of (row_offsets t.first (t.count / t.block) t.jump))
+pub outer_near : (t : Turns) → AreShapeTurns t → IsNear (reach_of (row_offsets t.first (t.count / t.block) t.jump))
 outer_near t turns =
     let first = turns.first in
     let blocks = blocks_of t turns in
     row_near t.first t.jump (t.count / t.block) turns.jump (omega arith)
 
-pub inner_near : (t : Turns) → AreTurns t → IsNear (reach_of (row_offsets (pos 0) t.block t.step))
+pub inner_near : (t : Turns) → AreShapeTurns t → IsNear (reach_of (row_offsets (pos 0) t.block t.step))
 inner_near t turns = let most = turns.most in row_near (pos 0) t.step t.block turns.step (omega (arith, ints))
 
 pub all_at : {X : Type 0} (P : X → Type 0) (xs : List X) (i : ℕ) (d : X) → AllByRecursion P xs → i < length xs → P (get_or xs i d)
@@ -107,7 +106,7 @@ grid_near (t ∷ []) nested (suc i) lt = absurd (omega arith)
 grid_near (t ∷ u ∷ turns) nested i lt = disps_near (grid_offsets (take i (t ∷ u ∷ turns))) (nested.1 i)
 
 -- where the block of a turn begins, and how far its turns may reach
-pub turn_block_near : (t : Turns) → AreTurns t → (q : ℕ) → q < t.count → nat_abs (t.first +ℤ (pos (q / t.block) *ℤ t.jump)) + q % t.block * 2 ^ 93 < 2 ^ 126
+pub turn_block_near : (t : Turns) → AreShapeTurns t → (q : ℕ) → q < t.count → nat_abs (t.first +ℤ (pos (q / t.block) *ℤ t.jump)) + q % t.block * 2 ^ 93 < 2 ^ 126
 turn_block_near t turns q h =
     let first = turns.first in
     let most = turns.most in

@@ -7,7 +7,7 @@ use lib.Signed.{mag}
 use mir.Syntax.{w128}
 use mir.Val.{to_z, of_z}
 use Rattle.std.proofs.lemmas.Int.{ints, to_z-of_z}
-use Rattle.dt_type.specs.Conditions.{IsFactor}
+use Rattle.dt_offsets.specs.Near.{IsFactor}
 
 size_of_neg : (n : ℕ) → nat_abs (neg_ℤ (pos n)) ≡ n
 size_of_neg n = omega (arith, ints)

@@ -8,18 +8,15 @@ use Rattle.std.proofs.lemmas.Grind.{flat_map-append}
 use Rattle.std.proofs.lemmas.List.{length-map, append-nil, take_more}
 use Rattle.std.proofs.Math.IntN.{+ℤ_comm}
 use Rattle.std.proofs.Math.Nat.{mul-le-mul_left, mul_comm, mul_assoc}
-use Rattle.dt_map.specs.declared.typemap.Marks.{Marks}
-use Rattle.dt_map.specs.Numbers.{below}
-use Rattle.dt_map.specs.Span.{point, reach_of, stretched}
-use Rattle.dt_map.specs.Laws.{sums as map_sums}
-use Rattle.dt_map.proofs.Offsets.{reach_of_sums}
-use Rattle.dt_map.proofs.Summaries.{both, spans-append}
-use Rattle.dt_type.specs.declared.shape.Spot.{Spot}
-use Rattle.dt_type.specs.declared.shape.Turns.{Turns}
-use Rattle.dt_type.specs.declared.span.Reach.{Reach}
-use Rattle.dt_type.specs.Conditions.{AreTurns}
-use Rattle.dt_type.specs.Reach.{capped, reach, beside, nested}
-use Rattle.dt_type.specs.Shape.{row_offsets, turn_offset, turn_offsets, grid_offsets, spot_offsets}
+use Rattle.dt_offsets.specs.declared.marks.Marks.{Marks}
+use Rattle.dt_offsets.specs.Offsets.{below, sums as map_sums, row_offsets, turn_offset, turn_offsets, grid_offsets, spot_offsets}
+use Rattle.dt_offsets.specs.Span.{point, reach_of, stretched}
+use Rattle.dt_offsets.proofs.Spans.{reach_of_sums, both, spans-append}
+use Rattle.dt_offsets.specs.declared.turns.Spot.{Spot}
+use Rattle.dt_offsets.specs.declared.turns.Turns.{Turns}
+use Rattle.dt_offsets.specs.declared.reach.Reach.{Reach}
+use Rattle.dt_type.specs.Conditions.{AreShapeTurns}
+use Rattle.dt_offsets.specs.Reach.{capped, reach, beside, nested}
 
 abbrev most : ℕ
 most = 2 ^ 64 - 1
@@ -131,7 +128,7 @@ pub reach-row : (first step : ℤ) (n : ℕ) (s : Option Marks) → n ≤ most �
 reach-row first step n s h e =
     reach_same _ _ _ _ (sym (ap capped (count-row first step n) ∙ below_most n h)) e
 
-pub reach-turns : (t : Turns) (s : Option Marks) → AreTurns t → s ≡ reach_of (turn_offsets t) → (let r : Reach = record { copies = t.count; span = s } in r) ≡ reach (turn_offsets t)
+pub reach-turns : (t : Turns) (s : Option Marks) → AreShapeTurns t → s ≡ reach_of (turn_offsets t) → (let r : Reach = record { copies = t.count; span = s } in r) ≡ reach (turn_offsets t)
 reach-turns t s turns e =
     let count = turns.count in
     let block = turns.most in

@@ -1,7 +1,7 @@
 -- What a digest says of the typemap under a cover, and that only the first limit is answered.
 use Rattle.std.specs.Prelude.{◌≡◌, Option, ◌≤◌, ◌↔◌, Err, IsErrOf}
 use Rattle.std.proofs.Common.{refl, sym, ap, subst, ◌∙◌, arith}
-use Rattle.dt_map.specs.declared.typemap.Marks.{Marks}
+use Rattle.dt_offsets.specs.declared.marks.Marks.{Marks}
 use Rattle.dt_map.specs.Bounds.{bounds_of}
 use Rattle.dt_map.specs.Typemap.{Marked}
 use Rattle.dt_map.proofs.Extremes.{alignment-pos}
@@ -11,7 +11,7 @@ use Rattle.dt_type.specs.declared.fault.CtorFault.{CtorFault}
 use Rattle.dt_type.specs.declared.fault.CtorFault.TheVariants.{BadArgument, Overflow, TooDeep, TooHeavy, NoMemory}
 use Rattle.dt_type.specs.declared.form.FormOf.{FormOf}
 use Rattle.dt_type.specs.declared.shape.Cover.{Cover}
-use Rattle.dt_type.specs.Datatype.{AreInRange, IsInRange}
+use Rattle.dt_map.specs.Limits.{AreInRange, IsInRange}
 use Rattle.dt_type.specs.Digest.{digest_of}
 use Rattle.dt_type.specs.Measure.{IsRefusal}
 use Rattle.dt_type.specs.Range.{bounds_from}

@@ -2,10 +2,10 @@
 use Rattle.std.specs.Prelude.{◌≡◌, Option, Some, ℕ, zero, suc, ◌-◌, ℤ, pos, ◌+ℤ◌, ◌*ℤ◌}
 use Rattle.std.specs.Int.{int_min, int_max}
 use Rattle.std.proofs.Common.{refl, sym, ap, ◌∙◌, arith}
-use Rattle.dt_map.specs.declared.typemap.Marks.{Marks}
-use Rattle.dt_map.specs.Span.{reach_of}
-use Rattle.dt_map.proofs.Offsets.{reach_of_even}
-use Rattle.dt_type.specs.Shape.{row_offsets}
+use Rattle.dt_offsets.specs.declared.marks.Marks.{Marks}
+use Rattle.dt_offsets.specs.Span.{reach_of}
+use Rattle.dt_offsets.proofs.Spans.{reach_of_even}
+use Rattle.dt_offsets.specs.Offsets.{row_offsets}
 
 abbrev ends : ℤ → ℤ → Option Marks
 ends a b = Some (record { lb = int_min a b; ub = int_max a b })

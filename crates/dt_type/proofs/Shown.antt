@@ -9,7 +9,8 @@ use Rattle.dt_type.specs.declared.datatype.Seen.{Seen, out-Seen, roll-Seen, out-
 use Rattle.dt_type.specs.declared.form.FormOf.{FormOf}
 use Rattle.dt_type.specs.Arguments.{takes_arguments}
 use Rattle.dt_type.specs.Conditions.{IsShapeFor}
-use Rattle.dt_type.specs.Datatype.{Layer, typemap_of, form_of, depth_of, IsInRange}
+use Rattle.dt_type.specs.Datatype.{Layer, typemap_of, form_of, depth_of}
+use Rattle.dt_map.specs.Limits.{IsInRange}
 use Rattle.dt_type.specs.Falls.{has_level}
 use Rattle.dt_type.specs.Form.{result_of, map_by, weight_by, items_of, deepest}
 use Rattle.dt_type.proofs.Counted.{sound_elements, sound_external, sound_alignment}

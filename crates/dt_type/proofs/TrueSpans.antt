@@ -2,14 +2,15 @@
 use Rattle.std.specs.Prelude.{◌≡◌, Option, Some, None, ◌==◌, cond, List, [], ◌∷◌, length}
 use Rattle.std.proofs.Common.{refl, ap, ◌∙◌}
 use Rattle.std.proofs.Math.Dec.{eqb-suc-zero}
-use Rattle.dt_map.specs.declared.typemap.Entry.{Entry}
-use Rattle.dt_map.specs.declared.typemap.Marks.{Marks}
+use Rattle.dt_map.specs.declared.entry.Entry.{Entry}
+use Rattle.dt_offsets.specs.declared.marks.Marks.{Marks}
 use Rattle.dt_map.specs.Bounds.{true_lb, true_ub, end_of, bounds_of}
-use Rattle.dt_map.specs.Placing.{joined_marks}
+use Rattle.dt_offsets.specs.Span.{joined_marks}
 use Rattle.dt_map.specs.Span.{span_of}
 use Rattle.dt_map.specs.Summary.{lb_or_zero, ub_or_zero}
 use Rattle.dt_map.specs.Typemap.{Marked}
-use Rattle.dt_map.proofs.Summaries.{both, true_lb_is, true_ub_is}
+use Rattle.dt_offsets.proofs.Spans.{both}
+use Rattle.dt_map.proofs.Summaries.{true_lb_is, true_ub_is}
 use Rattle.dt_type.specs.Digest.{true_span}
 
 -- the span of something is that between its ends

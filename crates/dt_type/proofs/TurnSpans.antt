@@ -4,14 +4,11 @@ use Rattle.std.specs.List.{flat_map}
 use Rattle.std.proofs.Common.{refl, ap, ◌∙◌, arith}
 use Rattle.std.proofs.lemmas.Int.{ints}
 use Rattle.std.proofs.Math.Nat.{mod-lt}
-use Rattle.dt_map.specs.Laws.{sums}
-use Rattle.dt_map.specs.Numbers.{below}
-use Rattle.dt_map.specs.Placing.{joined_marks}
-use Rattle.dt_map.specs.Span.{point, reach_of, stretched}
-use Rattle.dt_map.proofs.Offsets.{in_rows_of, reach_of_sums}
-use Rattle.dt_map.proofs.Summaries.{spans-append}
-use Rattle.dt_type.specs.declared.shape.Turns.{Turns}
-use Rattle.dt_type.specs.Shape.{row_offsets, turn_offset, turn_offsets}
+use Rattle.dt_offsets.specs.Offsets.{sums, below, row_offsets, turn_offset, turn_offsets}
+use Rattle.dt_offsets.specs.Span.{joined_marks, point, reach_of, stretched}
+use Rattle.dt_offsets.proofs.Rows.{in_rows_of}
+use Rattle.dt_offsets.proofs.Spans.{reach_of_sums, spans-append}
+use Rattle.dt_offsets.specs.declared.turns.Turns.{Turns}
 
 abbrev pub whole_blocks : ℤ → ℕ → ℤ → ℕ → ℤ → List ℤ
 whole_blocks first blocks jump block step = flat_map (λ i. row_offsets (first +ℤ (pos i *ℤ jump)) block step) (below blocks)

@@ -1,6 +1,6 @@
 use Rattle.std.specs.Prelude.{Option, Some, None, ℕ, ◌+◌, ◌-◌, ◌*◌, ◌/◌, ◌%◌, ◌==◌, ℤ, nat_abs, List, [], ◌∷◌, map}
 use Rattle.std.specs.List.{filter, flat_map}
-use Rattle.dt_map.specs.Numbers.{below}
+use Rattle.dt_offsets.specs.Offsets.{below}
 use Rattle.dt_type.specs.declared.form.Dist.{Dist}
 use Rattle.dt_type.specs.declared.form.Dist.TheVariants.{Block, Cyclic, Whole}
 use Rattle.dt_type.specs.declared.form.DistDim.{DistDim}

@@ -6,12 +6,12 @@ use Rattle.dt_type.specs.declared.form.FormOf.{FormOf}
 use Rattle.dt_type.specs.declared.shape.ShapeOf.{ShapeOf}
 use Rattle.dt_type.specs.declared.shape.ShapeOf.TheVariants.{One, Grid, Each, Seq}
 use Rattle.dt_type.specs.declared.shape.ShapePartOf.{ShapePartOf}
-use Rattle.dt_type.specs.declared.shape.Spot.{Spot}
-use Rattle.dt_type.specs.declared.shape.Turns.{Turns}
+use Rattle.dt_offsets.specs.declared.turns.Spot.{Spot}
+use Rattle.dt_offsets.specs.declared.turns.Turns.{Turns}
 use Rattle.dt_type.specs.Arguments.{takes_arguments}
 use Rattle.dt_type.specs.Form as form
 use Rattle.dt_type.specs.Shape as shape
-use Rattle.dt_type.specs.Shape.{turn_offsets, grid_offsets}
+use Rattle.dt_offsets.specs.Offsets.{turn_offsets, grid_offsets}
 
 -- What has to hold of a shape, and of a shape beside a form, for the arithmetic of bounds to stay within 128 bits.
 

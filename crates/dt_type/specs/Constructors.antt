@@ -1,6 +1,6 @@
 use Rattle.std.specs.Prelude.{ℕ, ◌+ℤ◌, ◌*ℤ◌, ℤ, pos, nat_abs, List, map}
 use Rattle.std.specs.List.{flat_map}
-use Rattle.dt_map.specs.Numbers.{below}
+use Rattle.dt_offsets.specs.Offsets.{below}
 use Rattle.dt_type.specs.declared.form.AddrBlock.{AddrBlock}
 use Rattle.dt_type.specs.declared.form.IntBlock.{IntBlock}
 

@@ -1,13 +1,13 @@
 use Rattle.std.specs.Prelude.{Option, Some, None, ◌+◌, ◌*◌, ◌==◌, cond, max, length}
-use Rattle.dt_map.specs.declared.typemap.Bounds.{Bounds}
-use Rattle.dt_map.specs.declared.typemap.Marks.{Marks}
+use Rattle.dt_map.specs.declared.bounds.Bounds.{Bounds}
+use Rattle.dt_offsets.specs.declared.marks.Marks.{Marks}
 use Rattle.dt_map.specs.Bounds.{size_of, external_size_of, alignment}
-use Rattle.dt_map.specs.Placing.{joined_marks}
-use Rattle.dt_map.specs.Span.{span_of, stretched}
+use Rattle.dt_offsets.specs.Span.{joined_marks, stretched}
+use Rattle.dt_map.specs.Span.{span_of}
 use Rattle.dt_map.specs.Typemap.{Marked}
 use Rattle.dt_type.specs.declared.digest.Digest.{Digest}
-use Rattle.dt_type.specs.declared.span.Reach.{Reach}
-use Rattle.dt_type.specs.Reach.{capped}
+use Rattle.dt_offsets.specs.declared.reach.Reach.{Reach}
+use Rattle.dt_offsets.specs.Reach.{capped}
 
 -- what bounds are made of
 abbrev pub digest_of : Marked → Digest

@@ -1,6 +1,6 @@
 use Rattle.std.specs.Prelude.{◌≡◌, ℕ, ◌≤◌, Some, None, Ok, false, IsTrue, map, length, slice_get}
 use Rattle.std.specs.Option.{option_map}
-use Rattle.dt_map.specs.Numbers.{below}
+use Rattle.dt_offsets.specs.Offsets.{below}
 use Rattle.dt_map.specs.Typemap.{Marked}
 use Rattle.dt_type.specs.declared.datatype.Seen.{Seen}
 use Rattle.dt_type.specs.Arguments.{takes_arguments}

@@ -1,7 +1,7 @@
 use Rattle.std.specs.Prelude.{ℤ, List}
 use Rattle.std.specs.List.{AllByRecursion, flat_map}
 use Rattle.dt_kinds.specs.Displacement.{FitsDisp}
-use Rattle.dt_map.specs.declared.typemap.Entry.{Entry}
+use Rattle.dt_map.specs.declared.entry.Entry.{Entry}
 use Rattle.dt_map.specs.Typemap.{shift}
 
 -- a copy of entries at each offset

@@ -6,7 +6,7 @@ use Rattle.dt_type.specs.declared.fault.CtorFault.{CtorFault}
 use Rattle.dt_type.specs.declared.fault.CtorFault.TheVariants.{BadArgument, Overflow, TooDeep, TooHeavy, NoMemory}
 use Rattle.dt_type.specs.declared.form.FormOf.{FormOf}
 use Rattle.dt_type.specs.declared.make.Measure.{Measure}
-use Rattle.dt_type.specs.Datatype.{IsInRange}
+use Rattle.dt_map.specs.Limits.{IsInRange}
 use Rattle.dt_type.specs.Form.{weight_by, depth_by}
 
 -- what a node keeps of a typemap and a form that pass no limit

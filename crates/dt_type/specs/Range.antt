@@ -1,7 +1,7 @@
 use Rattle.std.specs.Prelude.{Option, Some, None, ℕ, pos, ◌+ℤ◌, ◌-ℤ◌, nat_abs}
 use Rattle.dt_kinds.specs.Displacement.{FitsDisp}
-use Rattle.dt_map.specs.declared.typemap.Bounds.{Bounds}
-use Rattle.dt_map.specs.declared.typemap.Marks.{Marks}
+use Rattle.dt_map.specs.declared.bounds.Bounds.{Bounds}
+use Rattle.dt_offsets.specs.declared.marks.Marks.{Marks}
 use Rattle.dt_map.specs.Numbers.{padding}
 use Rattle.dt_type.specs.declared.digest.Digest.{Digest}
 

@@ -1,7 +1,6 @@
 use Rattle.std.specs.Prelude.{ℕ, ◌+◌, ◌*◌, ◌-◌, ◌^◌, min, ℤ, List, length}
-use Rattle.dt_map.specs.Placing.{joined_marks}
-use Rattle.dt_map.specs.Span.{reach_of, stretched}
-use Rattle.dt_type.specs.declared.span.Reach.{Reach}
+use Rattle.dt_offsets.specs.Span.{joined_marks, reach_of, stretched}
+use Rattle.dt_offsets.specs.declared.reach.Reach.{Reach}
 
 -- a count that stands still at the greatest number of 64 bits
 abbrev pub capped : ℕ → ℕ

@@ -4,7 +4,8 @@ use Rattle.dt_map.specs.Typemap.{Marked}
 use Rattle.dt_type.specs.declared.datatype.Node.{Node}
 use Rattle.dt_type.specs.declared.datatype.Seen.{Seen, roll-Seen}
 use Rattle.dt_type.specs.Conditions.{IsShapeFor}
-use Rattle.dt_type.specs.Datatype.{Layer, IsInRange}
+use Rattle.dt_type.specs.Datatype.{Layer}
+use Rattle.dt_map.specs.Limits.{IsInRange}
 use Rattle.dt_type.specs.Form.{map_by, weight_by, depth_by}
 use Rattle.dt_type.specs.Shape.{placed_by}
 

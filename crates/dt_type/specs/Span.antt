@@ -1,5 +1,5 @@
 use Rattle.std.specs.Prelude.{Option, Some, None, ℕ, ◌^◌, ◌<◌, nat_abs}
-use Rattle.dt_map.specs.declared.typemap.Marks.{Marks}
+use Rattle.dt_offsets.specs.declared.marks.Marks.{Marks}
 
 -- whether the ends of a span are less than a number, in absolute value
 abbrev pub IsWithin : ℕ → Option Marks → Type 0

@@ -5,7 +5,7 @@ ghost use Rattle.dt_type.specs.Conditions.{HasNumbers, IsShapePart};
 ghost use Rattle.dt_type.specs.Datatype.{typemap_of};
 ghost use Rattle.dt_type.specs.Digest as spec;
 ghost use Rattle.dt_type.specs.Digest.{digest_of};
-ghost use Rattle.dt_type.specs.Reach.{capped};
+ghost use Rattle.dt_offsets.specs.Reach.{capped};
 ghost use Rattle.dt_type.specs.Shape.{placed_by, placed_parts};
 ghost use Rattle.dt_type.specs.Span.{IsNear};
 

@@ -6,9 +6,11 @@ ghost use Rattle.dt_kinds.specs.Displacement.{FitsDisp};
 ghost use Rattle.dt_map.specs.Constructors.{copies_at};
 ghost use Rattle.dt_map.specs.Placing.{place};
 ghost use Rattle.dt_map.specs.Typemap.{shift_entry};
-ghost use Rattle.dt_type.specs.Conditions.{IsFactor, AreTurns, AreNested, IsSpot, IsShapePart};
+ghost use Rattle.dt_offsets.specs.Near.{IsFactor, IsSpot};
+ghost use Rattle.dt_type.specs.Conditions.{AreShapeTurns, AreNested, IsShapePart};
 ghost use Rattle.dt_type.specs.Datatype.{typemap_of, entries_of, depth_of};
-ghost use Rattle.dt_type.specs.Shape.{row_offsets, turn_offset, grid_offsets, spot_offsets, part_members, placed_parts};
+ghost use Rattle.dt_offsets.specs.Offsets.{row_offsets, turn_offset, grid_offsets, spot_offsets};
+ghost use Rattle.dt_type.specs.Shape.{part_members, placed_parts};
 
 use crate::datatype::Datatype;
 use crate::shape::{ShapeOf, ShapePart, Spot, Turns};
@@ -17,7 +19,7 @@ use dt_map::Entry;
 
 /// The offset of one of the turns.
 fn turn_at(turns: &Turns, turn: u64) -> i128
-    requires turns { AreTurns turns.now }
+    requires turns { AreShapeTurns turns.now }
     requires within { turn < turns.now.count }
     ensures { result ≡ turn_offset turns.now turn }
 {
@@ -27,7 +29,7 @@ fn turn_at(turns: &Turns, turn: u64) -> i128
 
 /// The offset of one of the copies that nested turns place.
 pub(crate) fn grid_at(turns: &[Turns], copies: u64, copy: u64) -> i128
-    requires turns { AllByRecursion AreTurns turns.now }
+    requires turns { AllByRecursion AreShapeTurns turns.now }
     requires nested { AreNested turns.now }
     requires copies { copies ≡ length (grid_offsets turns.now) }
     requires within { copy < copies }
@@ -81,7 +83,7 @@ fn part_at(parts: &[ShapePart], entry: u64) -> (&ShapePart, u64)
 
 /// For an entry of copies that nested turns place: the offset of its copy, and its number in the old type.
 fn in_grid(turns: &[Turns], old: &Datatype, entries: u64, entry: u64) -> (i128, u64)
-    requires turns { AllByRecursion AreTurns turns.now }
+    requires turns { AllByRecursion AreShapeTurns turns.now }
     requires nested { AreNested turns.now }
     requires entries { entries ≡ length (copies_at (grid_offsets turns.now) (typemap_of old.now)).entries }
     requires within { entry < entries }

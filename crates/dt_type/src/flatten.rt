@@ -2,11 +2,12 @@
 ghost use Rattle.std.specs.Prelude.{◌≡◌, ◌++◌, ◌<◌, length, IfOk, OnOk};
 ghost use Rattle.std.specs.List.{AllByRecursion};
 ghost use Rattle.dt_map.specs.Typemap.{shift};
-ghost use Rattle.dt_type.specs.Conditions.{IsFactor, AreTurns, AreNested, IsSpot};
+ghost use Rattle.dt_offsets.specs.Near.{IsFactor, IsSpot};
+ghost use Rattle.dt_type.specs.Conditions.{AreShapeTurns, AreNested};
 ghost use Rattle.dt_type.specs.Datatype.{entries_of};
 ghost use Rattle.dt_type.specs.Flatten.{IsFlattened};
 ghost use Rattle.dt_type.specs.Listing.{entries_at, HaveDisps};
-ghost use Rattle.dt_type.specs.Shape.{row_offsets, grid_offsets, spot_offsets};
+ghost use Rattle.dt_offsets.specs.Offsets.{row_offsets, grid_offsets, spot_offsets};
 
 use crate::datatype::Datatype;
 use crate::entries::{further, grid_at};
@@ -35,7 +36,7 @@ fn push_grid(
     one: &[Entry],
     entries: u64,
 ) -> Result<(), NoMemory>
-    requires turns { AllByRecursion AreTurns turns.now }
+    requires turns { AllByRecursion AreShapeTurns turns.now }
     requires nested { AreNested turns.now }
     requires fit { HaveDisps (entries_at (grid_offsets turns.now) one.now) }
     requires entries { entries ≡ length (entries_at (grid_offsets turns.now) one.now) }

@@ -1,7 +1,7 @@
 //! The door through which every derived datatype comes.
 ghost use Rattle.std.specs.Prelude.{◌≡◌, ◌≤◌, ◌<◌, ◌↔◌, IfOk, IsErrOf, MatchResult};
 ghost use Rattle.dt_type.specs.Conditions.{HasNumbers, IsShapeFor};
-ghost use Rattle.dt_type.specs.Datatype.{IsInRange};
+ghost use Rattle.dt_map.specs.Limits.{IsInRange};
 ghost use Rattle.dt_type.specs.Form as spec;
 ghost use Rattle.dt_type.specs.Form.{result_of, map_by};
 ghost use Rattle.dt_type.specs.Measure.{IsMeasure, IsRefusal};

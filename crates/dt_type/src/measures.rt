@@ -3,7 +3,7 @@ ghost use Rattle.std.specs.Prelude.{◌≡◌, map};
 ghost use Rattle.std.specs.List.{sum_by};
 ghost use Rattle.dt_type.specs.Datatype.{weight_of};
 ghost use Rattle.dt_type.specs.Form as spec;
-ghost use Rattle.dt_type.specs.Reach.{capped};
+ghost use Rattle.dt_offsets.specs.Reach.{capped};
 
 use crate::form::{Form, FormOf, Part};
 

@@ -2,7 +2,7 @@
 ghost use Rattle.std.specs.Prelude.{◌≡◌, ◌≤◌, ◌+ℤ◌, ◌-ℤ◌, pos, nat_abs, ◌↔◌, IsTrue, IsSome, IfSome};
 ghost use Rattle.dt_kinds.specs.Displacement.{FitsDisp};
 ghost use Rattle.dt_map.specs.Numbers.{padding};
-ghost use Rattle.dt_type.specs.Datatype.{AreInRange};
+ghost use Rattle.dt_map.specs.Limits.{AreInRange};
 ghost use Rattle.dt_type.specs.Range as spec;
 ghost use Rattle.dt_type.specs.Range.{Fits, FitAll};
 

@@ -1,11 +1,11 @@
 //! Spans of offsets, by arithmetic on the few numbers that say the offsets.
 ghost use Rattle.std.specs.Prelude.{◌≡◌, ◌+◌, ◌*◌, ◌^◌, ◌<◌, ◌+ℤ◌, ◌*ℤ◌, pos, nat_abs};
 ghost use Rattle.std.specs.List.{AllByRecursion};
-ghost use Rattle.dt_map.specs.Placing.{joined_marks};
-ghost use Rattle.dt_map.specs.Span.{reach_of, stretched as stretched_by};
-ghost use Rattle.dt_type.specs.Conditions.{IsFactor, AreTurns, AreNested, IsSpot};
-ghost use Rattle.dt_type.specs.Shape.{row_offsets, turn_offsets, grid_offsets, spot_offsets};
-ghost use Rattle.dt_type.specs.Reach as spec;
+ghost use Rattle.dt_offsets.specs.Span.{joined_marks, reach_of, stretched as stretched_by};
+ghost use Rattle.dt_offsets.specs.Near.{IsFactor, IsSpot};
+ghost use Rattle.dt_type.specs.Conditions.{AreShapeTurns, AreNested};
+ghost use Rattle.dt_offsets.specs.Offsets.{row_offsets, turn_offsets, grid_offsets, spot_offsets};
+ghost use Rattle.dt_offsets.specs.Reach as spec;
 ghost use Rattle.dt_type.specs.Span.{IsNear};
 
 use crate::shape::{Spot, Turns};
@@ -19,7 +19,7 @@ pub(crate) struct Span {
 }
 
 impl Model for Span {
-    ghost use Rattle.dt_map.specs.declared.typemap.Marks.{Marks};
+    ghost use Rattle.dt_offsets.specs.declared.marks.Marks.{Marks};
 
     ghost Value = { Marks };
 
@@ -93,7 +93,7 @@ pub(crate) fn row(first: i128, copies: u64, step: i128) -> Option<Span>
 
 /// The span of the offsets of turns.
 pub(crate) fn turns_reach(turns: &Turns) -> Option<Span>
-    requires { AreTurns turns.now }
+    requires { AreShapeTurns turns.now }
     ensures { result ≡ reach_of (turn_offsets turns.now) }
 {
     let blocks = turns.count / turns.block;
@@ -128,7 +128,7 @@ fn nested(outer: Reach, inner: Reach) -> Reach
 
 /// Of nested turns.
 pub(crate) fn grid_reach(turns: &[Turns]) -> Reach
-    requires turns { AllByRecursion AreTurns turns.now }
+    requires turns { AllByRecursion AreShapeTurns turns.now }
     requires nested { AreNested turns.now }
     ensures value { result ≡ spec.reach (grid_offsets turns.now) }
     ensures near { IsNear result.span }

@@ -2,8 +2,8 @@ use mir.Syntax.{w64, w128}
 use mir.Val.{to_z, of_z}
 use Rattle.std.proofs.Common.{◌∙◌, ◌-ℤ◌, ap, arith, FitsSigned}
 use Rattle.std.proofs.lemmas.Int.{ints, to_z-of_z}
-use Rattle.dt_kinds.proofs.Displacement.{same_disp}
-use Rattle.dt_map.specs.declared.typemap.Bounds.{Bounds}
+use Rattle.dt_kinds.proofs.Displacements.{same_disp}
+use Rattle.dt_map.specs.declared.bounds.Bounds.{Bounds}
 use Rattle.dt_map.specs.Bounds.{upper, lower}
 use Rattle.dt_type.specs.Datatype.{typemap_of}
 use Rattle.dt_array.proofs.built.extent_of.Goals as goal

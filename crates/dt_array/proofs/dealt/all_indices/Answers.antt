@@ -2,7 +2,7 @@ use mir.Syntax.{w32}
 use Rattle.std.proofs.Common.{◌∙◌, ap, sym, subst, nat_abs}
 use Rattle.std.proofs.lemmas.Int.{to_z-of_z}
 use Rattle.std.specs.List.{AllByRecursion}
-use Rattle.dt_type.proofs.Near.{all_append}
+use Rattle.dt_offsets.proofs.NearNumbers.{all_append}
 use Rattle.dt_array.specs.Indices.{AreInside}
 use Rattle.dt_array.proofs.Grids.{taken_at, later_step, later_some, procs_some, place_inside, axes_step, all_axes}
 use Rattle.dt_array.proofs.dealt.all_indices.Goals as goal

@@ -4,7 +4,7 @@ use Rattle.std.proofs.lemmas.Int.{to_z-of_z}
 use Rattle.dt_map.specs.Bounds.{extent_of}
 use Rattle.dt_type.specs.Constructors.{hvector_offsets}
 use Rattle.dt_type.specs.Datatype.{typemap_of}
-use Rattle.dt_type.specs.Shape.{turn_offsets}
+use Rattle.dt_offsets.specs.Offsets.{turn_offsets}
 use Rattle.dt_ctor.proofs.Blocks.{placed, same_blocks}
 use Rattle.dt_ctor.proofs.even.blocks_of.Goals as goal
 

@@ -1,7 +1,7 @@
 use Rattle.std.proofs.Common.{◌≡◌, take, map}
 use Rattle.std.specs.List.{AllByRecursion}
 use Rattle.dt_map.specs.Bounds.{extent_of}
-use Rattle.dt_type.specs.Conditions.{IsSpot}
+use Rattle.dt_offsets.specs.Near.{IsSpot}
 use Rattle.dt_type.specs.Datatype.{typemap_of}
 use Rattle.dt_ctor.specs.Rows.{int_block_row}
 use Rattle.dt_ctor.proofs.listed.int_blocks_of.Given as goal

@@ -3,7 +3,7 @@ use Rattle.std.proofs.lemmas.Int.{to_z-of_z}
 use Rattle.std.proofs.lemmas.List.{take_all}
 use Rattle.std.specs.Int.{w128}
 use Rattle.dt_kinds.specs.Image.{image}
-use Rattle.dt_map.specs.declared.typemap.Entry.{Entry}
+use Rattle.dt_map.specs.declared.entry.Entry.{Entry}
 use Rattle.dt_map.specs.Packed.{packed}
 use Rattle.dt_map.specs.Typemap.{shift}
 use Rattle.dt_type.specs.Datatype.{entries_of}

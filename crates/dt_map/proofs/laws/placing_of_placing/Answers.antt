@@ -1,4 +1,4 @@
-use Rattle.dt_map.proofs.Offsets.{placing_of_placing}
+use Rattle.dt_map.proofs.Placings.{placing_of_placing}
 use Rattle.dt_map.proofs.laws.placing_of_placing.Goals as goal
 
 pub returns : goal.returns

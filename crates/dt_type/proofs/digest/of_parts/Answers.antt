@@ -3,11 +3,12 @@ use Rattle.dt_type.specs.declared.datatype.Seen.{Seen}
 use Rattle.dt_type.specs.declared.shape.ShapePartOf.{ShapePartOf}
 use Rattle.dt_type.specs.Conditions.{IsShapePart}
 use Rattle.dt_type.specs.Digest.{digest_of, joined, repeated}
-use Rattle.dt_type.specs.Reach.{reach}
-use Rattle.dt_type.specs.Shape.{placed_parts, row_offsets}
+use Rattle.dt_offsets.specs.Reach.{reach}
+use Rattle.dt_type.specs.Shape.{placed_parts}
+use Rattle.dt_offsets.specs.Offsets.{row_offsets}
 use Rattle.dt_type.proofs.Digests.{digest-part}
-use Rattle.dt_type.proofs.Near.{all_at}
-use Rattle.dt_type.proofs.Products.{factor_back}
+use Rattle.dt_offsets.proofs.NearNumbers.{all_at}
+use Rattle.dt_offsets.proofs.Products.{factor_back}
 use Rattle.dt_type.proofs.digest.of_parts.Goals as goal
 
 pub loop-part-preserved : goal.loop-part-preserved

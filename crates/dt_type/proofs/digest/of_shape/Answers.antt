@@ -1,8 +1,9 @@
 use Rattle.std.proofs.Common.{◌∙◌, sym, ap}
 use Rattle.dt_type.specs.Datatype.{typemap_of}
 use Rattle.dt_type.specs.Digest.{digest_of, repeated}
-use Rattle.dt_type.specs.Reach.{reach}
-use Rattle.dt_type.specs.Shape.{grid_offsets, spot_offsets, placed_by}
+use Rattle.dt_offsets.specs.Reach.{reach}
+use Rattle.dt_offsets.specs.Offsets.{grid_offsets, spot_offsets}
+use Rattle.dt_type.specs.Shape.{placed_by}
 use Rattle.dt_type.proofs.Digests.{digest-copies}
 use Rattle.dt_type.proofs.digest.of_shape.Goals as goal
 

@@ -3,10 +3,10 @@ use mir.Val.{to_z, of_z}
 use Rattle.std.proofs.Common.{◌≡◌, ◌∙◌, sym, subst, arith, ◌+ℤ◌, pos, ◌/◌, ◌%◌, ◌<◌, length, take, get_or, FitsSigned}
 use Rattle.std.proofs.Math.Nat.{mod-lt}
 use Rattle.std.proofs.lemmas.Int.{to_z-of_z}
-use Rattle.dt_type.specs.declared.shape.Turns.{Turns}
-use Rattle.dt_type.specs.Shape.{grid_offsets, turn_offset}
-use Rattle.dt_type.proofs.GridAt.{count_some, divided, divided_some, next, next_fits}
-use Rattle.dt_type.proofs.Products.{same128, near_fits}
+use Rattle.dt_offsets.specs.declared.turns.Turns.{Turns}
+use Rattle.dt_offsets.specs.Offsets.{grid_offsets, turn_offset}
+use Rattle.dt_offsets.proofs.GridAt.{count_some, divided, divided_some, next, next_fits}
+use Rattle.dt_offsets.proofs.Products.{same128, near_fits}
 use Rattle.dt_type.proofs.entries.grid_at.Goals as goal
 
 abbrev no_turns : Turns

@@ -1,5 +1,5 @@
 use Rattle.std.proofs.Common.{◌≡◌, ◌/◌, take, drop, length, get_or, pos}
-use Rattle.dt_type.specs.Shape.{grid_offsets}
+use Rattle.dt_offsets.specs.Offsets.{grid_offsets}
 use Rattle.dt_type.proofs.entries.grid_at.Given as goal
 
 abbrev pub invariant-loop-inner : goal.invariant-loop-inner

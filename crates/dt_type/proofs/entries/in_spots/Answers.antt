@@ -4,12 +4,12 @@ use Rattle.std.specs.Prelude.{slice_get}
 use Rattle.std.specs.Option.{option_map}
 use Rattle.std.proofs.Common.{◌≡◌, ◌∙◌, sym, ap, arith, ◌/◌, ◌%◌, pos, length, get_or}
 use Rattle.std.proofs.lemmas.Option.{get_or_from_slice_get}
-use Rattle.dt_map.specs.declared.typemap.Bounds.{Bounds}
+use Rattle.dt_map.specs.declared.bounds.Bounds.{Bounds}
 use Rattle.dt_map.specs.Typemap.{shift_entry}
 use Rattle.dt_type.specs.Datatype.{typemap_of, entries_of}
-use Rattle.dt_type.specs.Shape.{spot_offsets}
+use Rattle.dt_offsets.specs.Offsets.{spot_offsets}
 use Rattle.dt_type.proofs.CopyAt.{each_some, copy_within, entry_of_copy}
-use Rattle.dt_type.proofs.Products.{same128}
+use Rattle.dt_offsets.proofs.Products.{same128}
 use Rattle.dt_type.proofs.entries.in_spots.Goals as goal
 
 pub nonzero_div-entry : goal.nonzero_div-entry

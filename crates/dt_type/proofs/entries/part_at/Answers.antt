@@ -1,11 +1,12 @@
 use Rattle.std.specs.Prelude.{slice_get}
 use Rattle.std.specs.List.{flat_map}
 use Rattle.std.proofs.Common.{◌≡◌, ◌∙◌, sym, ap, arith, ◌-◌, ◌*◌, length, drop, ◌+◌}
-use Rattle.dt_map.specs.declared.typemap.Bounds.{Bounds}
+use Rattle.dt_map.specs.declared.bounds.Bounds.{Bounds}
 use Rattle.dt_type.specs.declared.datatype.Seen.{Seen}
 use Rattle.dt_type.specs.declared.shape.ShapePartOf.{ShapePartOf}
 use Rattle.dt_type.specs.Shape.{placed_parts}
-use Rattle.dt_type.proofs.Lookups.{part_entries, entries-parts, length-part, piece_here, piece_later, none_left}
+use Rattle.dt_type.proofs.Lookups.{part_entries, entries-parts, length-part}
+use Rattle.dt_offsets.proofs.Lookups.{piece_here, piece_later, none_left}
 use Rattle.dt_type.proofs.entries.part_at.Goals as goal
 
 pub loop-part-init : goal.loop-part-init

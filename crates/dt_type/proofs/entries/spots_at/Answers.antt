@@ -2,14 +2,14 @@ use mir.Syntax.{w128}
 use mir.Val.{to_z, of_z}
 use Rattle.std.specs.Prelude.{Some, slice_get}
 use Rattle.std.proofs.Common.{◌≡◌, ◌∙◌, sym, refl, ap, arith, ◌+ℤ◌, ◌*ℤ◌, pos, ◌-◌, length, get_or, drop, ◌+◌}
-use Rattle.dt_type.specs.declared.shape.Spot.{Spot}
-use Rattle.dt_type.specs.Conditions.{IsSpot}
-use Rattle.dt_type.specs.Shape.{row_offsets, spot_offsets}
-use Rattle.dt_type.proofs.GridAt.{row_at}
-use Rattle.dt_type.proofs.Lookups.{piece_here, piece_later, none_left}
-use Rattle.dt_type.proofs.Near.{all_at}
-use Rattle.dt_type.proofs.Products.{same128, factor_back}
-use Rattle.dt_type.proofs.Reaches.{count-row}
+use Rattle.dt_offsets.specs.declared.turns.Spot.{Spot}
+use Rattle.dt_offsets.specs.Near.{IsSpot}
+use Rattle.dt_offsets.specs.Offsets.{row_offsets, spot_offsets}
+use Rattle.dt_offsets.proofs.GridAt.{row_at}
+use Rattle.dt_offsets.proofs.Lookups.{piece_here, piece_later, none_left}
+use Rattle.dt_offsets.proofs.NearNumbers.{all_at}
+use Rattle.dt_offsets.proofs.Products.{same128, factor_back}
+use Rattle.dt_offsets.proofs.Reaches.{count-row}
 use Rattle.dt_type.proofs.entries.spots_at.Goals as goal
 
 abbrev no_spot : Spot

@@ -1,6 +1,6 @@
 use Rattle.std.specs.Prelude.{slice_get}
 use Rattle.std.proofs.Common.{◌≡◌, drop}
-use Rattle.dt_type.specs.Shape.{spot_offsets}
+use Rattle.dt_offsets.specs.Offsets.{spot_offsets}
 use Rattle.dt_type.proofs.entries.spots_at.Given as goal
 
 abbrev pub invariant-loop-spot : goal.invariant-loop-spot

@@ -1,8 +1,8 @@
 use mir.Syntax.{w128}
 use mir.Val.{to_z, of_z}
 use Rattle.std.proofs.Common.{◌≡◌, subst, ◌+ℤ◌, ◌*ℤ◌, pos, ◌/◌, ◌%◌, ◌+◌, ◌*◌, ◌^◌, ◌<◌, ℤ, nat_abs}
-use Rattle.dt_type.proofs.Near.{turn_block_near}
-use Rattle.dt_type.proofs.Products.{same128, factor_back}
+use Rattle.dt_offsets.proofs.NearNumbers.{turn_block_near}
+use Rattle.dt_offsets.proofs.Products.{same128, factor_back}
 use Rattle.dt_type.proofs.entries.turn_at.Goals as goal
 
 pub along-requires-clause-near : goal.along-requires-clause-near

@@ -3,7 +3,7 @@ use Rattle.std.proofs.Common.{◌≡◌, ◌++◌, pos, List, subst}
 use Rattle.std.proofs.lemmas.Int.{to_z-of_z}
 use Rattle.std.proofs.lemmas.List.{take_all}
 use Rattle.dt_kinds.specs.declared.kind.Kind.TheVariants.{Byte}
-use Rattle.dt_map.specs.declared.typemap.Entry.{Entry}
+use Rattle.dt_map.specs.declared.entry.Entry.{Entry}
 use Rattle.dt_map.specs.Typemap.{shift}
 use Rattle.dt_type.proofs.Listings.{disp_at}
 use Rattle.dt_type.proofs.flatten.push_copy.Goals as goal

@@ -4,9 +4,9 @@ use Rattle.std.proofs.Common.{◌≡◌, ◌∙◌, pos, ◌+◌, ◌++◌, ℤ,
 use Rattle.std.proofs.lemmas.List.{take_all}
 use Rattle.dt_map.specs.Typemap.{shift}
 use Rattle.dt_type.specs.Listing.{entries_at, HaveDisps}
-use Rattle.dt_type.specs.Shape.{grid_offsets}
+use Rattle.dt_offsets.specs.Offsets.{grid_offsets}
 use Rattle.dt_type.proofs.Listings.{after, copy_more, copy_fits, one_some, copies_are}
-use Rattle.dt_type.proofs.Products.{same128}
+use Rattle.dt_offsets.proofs.Products.{same128}
 use Rattle.dt_type.proofs.flatten.push_grid.Goals as goal
 
 pub nonzero_div-copies : goal.nonzero_div-copies

@@ -1,6 +1,6 @@
 use Rattle.std.proofs.Common.{◌≡◌, ◌++◌, take}
 use Rattle.dt_type.specs.Listing.{entries_at}
-use Rattle.dt_type.specs.Shape.{grid_offsets}
+use Rattle.dt_offsets.specs.Offsets.{grid_offsets}
 use Rattle.dt_type.proofs.flatten.push_grid.Given as goal
 
 -- the copies up to here are appended

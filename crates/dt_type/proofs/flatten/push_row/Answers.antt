@@ -5,9 +5,9 @@ use Rattle.std.proofs.lemmas.Bool.{eqb-true}
 use Rattle.std.proofs.lemmas.List.{nil_from_length}
 use Rattle.dt_map.specs.Typemap.{shift}
 use Rattle.dt_type.specs.Listing.{entries_at, HaveDisps}
-use Rattle.dt_type.specs.Shape.{row_offsets}
+use Rattle.dt_offsets.specs.Offsets.{row_offsets}
 use Rattle.dt_type.proofs.Listings.{after, nothing_after, none_at, row_more, row_fits}
-use Rattle.dt_type.proofs.Products.{same128, factor_back}
+use Rattle.dt_offsets.proofs.Products.{same128, factor_back}
 use Rattle.dt_type.proofs.flatten.push_row.Goals as goal
 
 pub returns-then-is_empty : goal.returns-then-is_empty

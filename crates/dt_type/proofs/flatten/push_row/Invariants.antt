@@ -1,6 +1,6 @@
 use Rattle.std.proofs.Common.{◌≡◌, ◌++◌}
 use Rattle.dt_type.specs.Listing.{entries_at}
-use Rattle.dt_type.specs.Shape.{row_offsets}
+use Rattle.dt_offsets.specs.Offsets.{row_offsets}
 use Rattle.dt_type.proofs.flatten.push_row.Given as goal
 
 -- the copies up to here are appended

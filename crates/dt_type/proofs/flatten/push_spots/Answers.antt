@@ -1,11 +1,11 @@
 use Rattle.std.proofs.Common.{pos, ◌+◌, take, get_or}
-use Rattle.dt_type.specs.declared.shape.Spot.{Spot}
-use Rattle.dt_type.specs.Conditions.{IsSpot}
+use Rattle.dt_offsets.specs.declared.turns.Spot.{Spot}
+use Rattle.dt_offsets.specs.Near.{IsSpot}
 use Rattle.dt_type.specs.Listing.{entries_at}
-use Rattle.dt_type.specs.Shape.{row_offsets, spot_offsets}
+use Rattle.dt_offsets.specs.Offsets.{row_offsets, spot_offsets}
 use Rattle.dt_type.proofs.Listings.{after, spot_more, spot_fits}
-use Rattle.dt_type.proofs.Near.{all_at}
-use Rattle.dt_type.proofs.Products.{factor_back}
+use Rattle.dt_offsets.proofs.NearNumbers.{all_at}
+use Rattle.dt_offsets.proofs.Products.{factor_back}
 use Rattle.dt_type.proofs.flatten.push_spots.Goals as goal
 
 abbrev no_spot : Spot

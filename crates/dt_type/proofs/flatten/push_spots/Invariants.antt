@@ -1,6 +1,6 @@
 use Rattle.std.proofs.Common.{◌≡◌, ◌++◌, take}
 use Rattle.dt_type.specs.Listing.{entries_at}
-use Rattle.dt_type.specs.Shape.{spot_offsets}
+use Rattle.dt_offsets.specs.Offsets.{spot_offsets}
 use Rattle.dt_type.proofs.flatten.push_spots.Given as goal
 
 -- the copies of the spots up to here are appended

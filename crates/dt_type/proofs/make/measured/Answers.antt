@@ -1,6 +1,6 @@
 use Rattle.std.proofs.Common.{◌∙◌, refl, arith}
 use Rattle.std.proofs.lemmas.Bool.{false≢true}
-use Rattle.dt_type.specs.Datatype.{IsInRange}
+use Rattle.dt_map.specs.Limits.{IsInRange}
 use Rattle.dt_type.specs.Shape.{placed_by, covered}
 use Rattle.dt_type.proofs.Refusals.{exact, covered_range, out_of_range, aligned, left_of}
 use Rattle.dt_type.proofs.make.measured.Goals as goal

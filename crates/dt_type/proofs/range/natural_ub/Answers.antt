@@ -3,7 +3,7 @@ use mir.Val.{to_z, of_z}
 use Rattle.std.proofs.Common.{◌≡◌, ◌+ℤ◌, ◌-ℤ◌, pos, nat_abs, arith, FitsSigned}
 use Rattle.std.proofs.lemmas.Int.{ints, to_z-of_z}
 use Rattle.dt_map.specs.Numbers.{padding}
-use Rattle.dt_type.proofs.Products.{same128}
+use Rattle.dt_offsets.proofs.Products.{same128}
 use Rattle.dt_type.proofs.range.natural_ub.Goals as goal
 
 pub returns : goal.returns

@@ -1,7 +1,7 @@
 use mir.Syntax.{w128}
 use Rattle.std.proofs.Common.{◌∙◌, sym, subst, FitsSigned}
 use Rattle.std.proofs.lemmas.Int.{to_z-of_z}
-use Rattle.dt_type.proofs.Products.{along_fits, read_back}
+use Rattle.dt_offsets.proofs.Products.{along_fits, read_back}
 use Rattle.dt_type.proofs.span.along.Goals as goal
 
 pub overflow_add-result : goal.overflow_add-result

@@ -1,15 +1,15 @@
 use Rattle.std.proofs.Common.{◌≡◌, ◌∙◌, sym, ap, subst, take, get_or, pos}
 use Rattle.std.proofs.lemmas.List.{take_all}
-use Rattle.dt_map.specs.Span.{reach_of}
-use Rattle.dt_type.specs.declared.shape.Turns.{Turns}
-use Rattle.dt_type.specs.declared.span.Reach.{Reach}
-use Rattle.dt_type.specs.Conditions.{AreTurns}
-use Rattle.dt_type.specs.Reach.{nested, reach}
-use Rattle.dt_type.specs.Shape.{grid_offsets}
+use Rattle.dt_offsets.specs.Span.{reach_of}
+use Rattle.dt_offsets.specs.declared.turns.Turns.{Turns}
+use Rattle.dt_offsets.specs.declared.reach.Reach.{Reach}
+use Rattle.dt_type.specs.Conditions.{AreShapeTurns}
+use Rattle.dt_offsets.specs.Reach.{nested, reach}
+use Rattle.dt_offsets.specs.Offsets.{grid_offsets}
 use Rattle.dt_type.specs.Span.{IsNear}
 use Rattle.dt_type.proofs.GridNear.{grid_whole_near}
-use Rattle.dt_type.proofs.Near.{all_at, grid_near, turns_near}
-use Rattle.dt_type.proofs.Reaches.{grid-step, reach-turns}
+use Rattle.dt_offsets.proofs.NearNumbers.{all_at, grid_near, turns_near}
+use Rattle.dt_offsets.proofs.Reaches.{grid-step, reach-turns}
 use Rattle.dt_type.proofs.span.grid_reach.Goals as goal
 
 abbrev no_turns : Turns
@@ -21,13 +21,13 @@ nested-reach-requires-clause-outer c =
 
 pub nested-reach-requires-clause-inner : goal.nested-reach-requires-clause-inner
 nested-reach-requires-clause-inner c =
-    let turns = all_at AreTurns c.args.turns.now c.loop-inner.inner-index no_turns c.requires.turns c.loop-inner-test.true in
+    let turns = all_at AreShapeTurns c.args.turns.now c.loop-inner.inner-index no_turns c.requires.turns c.loop-inner-test.true in
     subst IsNear (sym c.turns_reach.ensures) (turns_near (get_or c.args.turns.now c.loop-inner.inner-index no_turns) turns)
 
 pub loop-inner-preserved : goal.loop-inner-preserved
 loop-inner-preserved c =
     let t = get_or c.args.turns.now c.loop-inner.inner-index no_turns in
-    let turns = all_at AreTurns c.args.turns.now c.loop-inner.inner-index no_turns c.requires.turns c.loop-inner-test.true in
+    let turns = all_at AreShapeTurns c.args.turns.now c.loop-inner.inner-index no_turns c.requires.turns c.loop-inner-test.true in
     let inner = reach-turns t c.turns_reach.result turns c.turns_reach.ensures in
     let step = grid-step c.args.turns.now c.loop-inner.inner-index no_turns c.loop-inner-test.true in
     let outer = reach (grid_offsets (take c.loop-inner.inner-index c.args.turns.now)) in

@@ -1,6 +1,6 @@
 use Rattle.std.proofs.Common.{◌≡◌, take}
-use Rattle.dt_type.specs.Reach.{reach}
-use Rattle.dt_type.specs.Shape.{grid_offsets}
+use Rattle.dt_offsets.specs.Reach.{reach}
+use Rattle.dt_offsets.specs.Offsets.{grid_offsets}
 use Rattle.dt_type.proofs.span.grid_reach.Given as goal
 
 abbrev pub invariant-loop-inner : goal.invariant-loop-inner

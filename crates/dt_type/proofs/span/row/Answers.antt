@@ -1,6 +1,6 @@
 use Rattle.std.proofs.Common.{◌≡◌, ◌+ℤ◌, ◌*ℤ◌, pos, ◌-◌}
-use Rattle.dt_type.proofs.Products.{same128}
-use Rattle.dt_type.proofs.Rows.{row_between}
+use Rattle.dt_offsets.proofs.Products.{same128}
+use Rattle.dt_offsets.proofs.RowSpans.{row_between}
 use Rattle.dt_type.proofs.span.row.Goals as goal
 
 pub returns : goal.returns

@@ -1,10 +1,10 @@
 use Rattle.std.proofs.Common.{◌≡◌, arith, subst}
-use Rattle.dt_map.specs.Span.{reach_of}
-use Rattle.dt_type.specs.Shape.{row_offsets}
+use Rattle.dt_offsets.specs.Span.{reach_of}
+use Rattle.dt_offsets.specs.Offsets.{row_offsets}
 use Rattle.dt_type.specs.Span.{IsNear}
-use Rattle.dt_type.proofs.Near.{row_near}
-use Rattle.dt_type.proofs.Products.{factor_back}
-use Rattle.dt_type.proofs.Reaches.{reach-row}
+use Rattle.dt_offsets.proofs.NearNumbers.{row_near}
+use Rattle.dt_offsets.proofs.Products.{factor_back}
+use Rattle.dt_offsets.proofs.Reaches.{reach-row}
 use Rattle.dt_type.proofs.span.row_reach.Goals as goal
 
 pub returns-clause-value : goal.returns-clause-value

@@ -1,13 +1,13 @@
 use Rattle.std.proofs.Common.{◌≡◌, ◌∙◌, sym, ap, subst, ◌^◌, take, get_or, pos}
-use Rattle.dt_type.specs.declared.shape.Spot.{Spot}
-use Rattle.dt_type.specs.declared.span.Reach.{Reach}
-use Rattle.dt_type.specs.Conditions.{IsSpot}
-use Rattle.dt_type.specs.Reach.{beside, reach}
-use Rattle.dt_type.specs.Shape.{spot_offsets, row_offsets}
+use Rattle.dt_offsets.specs.declared.turns.Spot.{Spot}
+use Rattle.dt_offsets.specs.declared.reach.Reach.{Reach}
+use Rattle.dt_offsets.specs.Near.{IsSpot}
+use Rattle.dt_offsets.specs.Reach.{beside, reach}
+use Rattle.dt_offsets.specs.Offsets.{spot_offsets, row_offsets}
 use Rattle.dt_type.specs.Span.{IsNear}
-use Rattle.dt_type.proofs.Near.{all_at, joined_within}
-use Rattle.dt_type.proofs.Products.{factor_back}
-use Rattle.dt_type.proofs.Reaches.{spots-step}
+use Rattle.dt_offsets.proofs.NearNumbers.{all_at, joined_within}
+use Rattle.dt_offsets.proofs.Products.{factor_back}
+use Rattle.dt_offsets.proofs.Reaches.{spots-step}
 use Rattle.dt_type.proofs.span.spots_reach.Goals as goal
 
 abbrev no_spot : Spot

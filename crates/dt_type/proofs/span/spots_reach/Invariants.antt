@@ -1,6 +1,6 @@
 use Rattle.std.proofs.Common.{◌≡◌, take}
-use Rattle.dt_type.specs.Reach.{reach}
-use Rattle.dt_type.specs.Shape.{spot_offsets}
+use Rattle.dt_offsets.specs.Reach.{reach}
+use Rattle.dt_offsets.specs.Offsets.{spot_offsets}
 use Rattle.dt_type.specs.Span.{IsNear}
 use Rattle.dt_type.proofs.span.spots_reach.Given as goal
 

@@ -1,12 +1,12 @@
 use mir.Syntax.{w128}
 use mir.Val.{to_z, of_z}
 use Rattle.std.proofs.Common.{◌≡◌, subst, ◌+ℤ◌, ◌*ℤ◌, pos, ◌/◌, ◌%◌, ◌+◌, ◌*◌, ◌^◌, ◌<◌, ℤ, nat_abs}
-use Rattle.dt_map.specs.Span.{reach_of}
-use Rattle.dt_type.specs.Shape.{row_offsets}
+use Rattle.dt_offsets.specs.Span.{reach_of}
+use Rattle.dt_offsets.specs.Offsets.{row_offsets}
 use Rattle.dt_type.specs.Span.{IsNear}
-use Rattle.dt_type.proofs.Near.{last_near, outer_near, inner_near}
-use Rattle.dt_type.proofs.Products.{same128, factor_back}
-use Rattle.dt_type.proofs.TurnSpans.{turns-reach}
+use Rattle.dt_offsets.proofs.NearNumbers.{last_near, outer_near, inner_near}
+use Rattle.dt_offsets.proofs.Products.{same128, factor_back}
+use Rattle.dt_offsets.proofs.TurnSpans.{turns-reach}
 use Rattle.dt_type.proofs.span.turns_reach.Goals as goal
 
 pub stretched-requires-clause-reach : goal.stretched-requires-clause-reach

@@ -10,8 +10,9 @@ use Rattle.dt_type.specs.declared.datatype.Seen.{Seen}
 use Rattle.dt_type.specs.declared.shape.ShapePartOf.{ShapePartOf}
 use Rattle.dt_type.specs.declared.shape.ShapeOf.{ShapeOf}
 use Rattle.dt_type.specs.Datatype.{typemap_of, entries_of, depth_of}
-use Rattle.dt_type.specs.Shape.{placed_by, placed_parts, olds_of, row_offsets, grid_offsets, spot_offsets}
-use Rattle.dt_type.proofs.Products.{factor_back}
+use Rattle.dt_type.specs.Shape.{placed_by, placed_parts, olds_of}
+use Rattle.dt_offsets.specs.Offsets.{row_offsets, grid_offsets, spot_offsets}
+use Rattle.dt_offsets.proofs.Products.{factor_back}
 use Rattle.dt_type.proofs.EntryFits.{moved_fits, all_of_map}
 use Rattle.dt_type.proofs.datatype.Datatype.+entry_at.Goals as goal
 

@@ -3,17 +3,18 @@ use mir.Val.{to_z, of_z}
 use Rattle.std.specs.List.{AllByRecursion, flat_map}
 use Rattle.std.proofs.Common.{◌≡◌, ◌∙◌, ◌<◌, List, length, sym, ap, subst, arith, rules}
 use Rattle.std.proofs.lemmas.List.{take_all}
-use Rattle.dt_map.specs.declared.typemap.Bounds.{Bounds}
+use Rattle.dt_map.specs.declared.bounds.Bounds.{Bounds}
 use Rattle.dt_type.specs.declared.datatype.Seen.{Seen}
 use Rattle.dt_type.specs.declared.shape.ShapeOf.{ShapeOf}
 use Rattle.dt_type.specs.declared.shape.ShapePartOf.{ShapePartOf}
 use Rattle.dt_type.specs.Datatype.{typemap_of, entries_of, depth_of}
 use Rattle.dt_type.specs.Listing.{entries_at, HaveDisps}
-use Rattle.dt_type.specs.Shape.{grid_offsets, spot_offsets, olds_of}
+use Rattle.dt_offsets.specs.Offsets.{grid_offsets, spot_offsets}
+use Rattle.dt_type.specs.Shape.{olds_of}
 use Rattle.dt_type.proofs.EntryFits.{all_of_map}
 use Rattle.dt_type.proofs.Listings.{in_range_fits, whole, grid_listed, spots_listed, parts_listed, part_skipped, part_more, part_fits}
 use Rattle.dt_type.proofs.Lookups.{part_entries, entries-parts}
-use Rattle.dt_type.proofs.Near.{all_at}
+use Rattle.dt_offsets.proofs.NearNumbers.{all_at}
 use Rattle.dt_type.proofs.datatype.Datatype.+listed.Goals as goal
 
 pub push_grid-requires-clause-fit : goal.push_grid-requires-clause-fit

@@ -1,0 +1,9 @@
+pub mod GridAt
+pub mod Lookups
+pub mod NearNumbers
+pub mod Products
+pub mod Reaches
+pub mod Rows
+pub mod RowSpans
+pub mod Spans
+pub mod TurnSpans

@@ -1,0 +1,28 @@
+use Rattle.std.proofs.Common.{◌≡◌, arith, subst}
+use Rattle.dt_offsets.specs.Span.{reach_of}
+use Rattle.dt_offsets.specs.Offsets.{row_offsets}
+use Rattle.dt_offsets.specs.Near.{IsNearSpan}
+use Rattle.dt_offsets.proofs.NearNumbers.{row_near}
+use Rattle.dt_offsets.proofs.Products.{factor_back}
+use Rattle.dt_offsets.proofs.Reaches.{reach-row}
+use Rattle.dt_offsets.proofs.reach.row_reach.Goals as goal
+
+pub returns-clause-value : goal.returns-clause-value
+returns-clause-value c =
+    let first = factor_back c.args.first c.requires.first in
+    let step = factor_back c.args.step c.requires.step in
+    let span : c.row_span.result ≡ reach_of (row_offsets c.args.first c.args.copies c.args.step) = cc in
+    let count = c.from-copies.ensures in
+    let made = reach-row c.args.first c.args.step c.args.copies c.row_span.result span in
+    let counted = c.counted.ensures in
+    cc
+
+pub returns-clause-near : goal.returns-clause-near
+returns-clause-near c =
+    let first = factor_back c.args.first c.requires.first in
+    let step = factor_back c.args.step c.requires.step in
+    let counted = c.counted.ensures in
+    let span : reach_of (row_offsets c.args.first c.args.copies c.args.step) ≡ c.counted.result.span = cc in
+    let factor = c.requires.first in
+    let copies = c.ranges.copies.fits in
+    subst IsNearSpan span (row_near c.args.first c.args.step c.args.copies c.requires.step (omega arith))

@@ -1,0 +1,5 @@
+pub mod Laws
+pub mod Near
+pub mod Offsets
+pub mod Reach
+pub mod Span
