@@ -2,6 +2,7 @@ pub mod Copies
 pub mod Examples
 pub mod Extremes
 pub mod Leading
+pub mod Likeness
 pub mod Offsets
 pub mod Rounding
 pub mod Summaries

@@ -1,6 +1,7 @@
 //! Typemaps of MPI datatypes as plain lists, with their bounds.
 #![tactic(auto)]
 
+pub mod alike;
 pub mod laws;
 pub mod typemap;
 
