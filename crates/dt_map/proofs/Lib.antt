@@ -5,5 +5,7 @@ pub mod Leading
 pub mod Likeness
 pub mod Offsets
 pub mod Rounding
+pub mod Seats
+pub mod Stacks
 pub mod Summaries
 pub mod Writing

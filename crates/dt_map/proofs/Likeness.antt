@@ -162,7 +162,7 @@ risen x step (e ∷ es) (f ∷ fs) h =
     from : (d g : ℤ) → d ≡ g +ℤ step → d +ℤ x ≡ (g +ℤ x) +ℤ step
     from d g same = omega (arith, ints)
 
-both_true : (a b : Bool) → (a && b) ≡ true → (a ≡ true) × (b ≡ true)
+pub both_true : (a b : Bool) → (a && b) ≡ true → (a ≡ true) × (b ≡ true)
 both_true true true e = (refl, refl)
 both_true true false e = cc
 both_true false b e = cc

@@ -1,5 +1,6 @@
 pub mod Alike
 pub mod AlikeLaws
+pub mod BlockLaws
 pub mod Bounds
 pub mod Constructors
 pub mod Counts

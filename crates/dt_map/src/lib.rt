@@ -2,6 +2,7 @@
 #![tactic(auto)]
 
 pub mod alike;
+pub mod blocks;
 pub mod laws;
 pub mod typemap;
 
