@@ -1,15 +1,15 @@
 -- where the subtrees of a tree stand
-use Rattle.std.proofs.Common.{◌≡◌, ◌⊎◌, inl, inr, ℕ, zero, suc, ◌+◌, ◌*◌, ◌≤◌, ◌<◌, ℤ, pos, ◌+ℤ◌, List, [], ◌∷◌, ◌++◌, length, get_or, refl, sym, ap, ◌∙◌, subst, arith, length-append}
+use Rattle.std.proofs.Common.{◌≡◌, inl, inr, ℕ, zero, suc, ◌+◌, ◌*◌, ◌≤◌, ◌<◌, ℤ, pos, ◌+ℤ◌, List, length, get_or, sym, ap, ◌∙◌, subst, arith, length-append}
 use Rattle.std.proofs.lemmas.List.{take_all}
 use Rattle.dt_map.specs.declared.typemap.Entry.{Entry}
 use Rattle.dt_map.specs.Typemap.{shift}
 use Rattle.dt_map.specs.Runs.{natural_extent, placed_at, even, run}
-use Rattle.dt_map.specs.Alike.{segment, are_stacked}
+use Rattle.dt_map.specs.Alike.{segment}
 use Rattle.dt_map.proofs.Offsets.{shift-shift}
 use Rattle.dt_map.proofs.Summaries.{length-shift}
 use Rattle.dt_map.proofs.Seats.{Sits, sits_segment, sits_inside, segment_sits, sits_first, sits_second, sits_shifted, sits_at, sits_copy, length-placed_at, length-even, length-run}
 use Rattle.dt_map.proofs.Stacks.{runs_stacked}
-use Rattle.dt_tree.specs.Tree.{Tree, leaf, vector, index, group, Parts, no_parts, part, flat, flat_parts, has_part, IsTree, AreTrees, Denotes, IsBlockIn, IsBlockAmong, IsWithin}
+use Rattle.dt_tree.specs.Tree.{Tree, leaf, vector, index, group, Parts, no_parts, part, flat, flat_parts, has_part, IsTree, AreTrees, Denotes, IsBlockIn, IsBlockAmong}
 use Rattle.dt_tree.specs.Laws.{PlacesAnEntry, DenotesFurther, SubtreesDenote, BlocksAreStacked}
 
 -- each tree places an entry
@@ -23,7 +23,7 @@ length-blocks places block es = length-placed_at places (run block es) ∙ ap (�
 pub run-pos : (block : ℕ) (es : List Entry) → 0 < block → 0 < length es → 0 < length (run block es)
 run-pos block es p q = omega (arith, length-run block es, product_pos block (length es) p q)
 
-placed_at-pos : (places : List ℤ) (es : List Entry) → 0 < length places → 0 < length es → 0 < length (placed_at places es)
+pub placed_at-pos : (places : List ℤ) (es : List Entry) → 0 < length places → 0 < length es → 0 < length (placed_at places es)
 placed_at-pos places es p q = omega (arith, length-placed_at places es, product_pos (length places) (length es) p q)
 
 mutual
@@ -34,7 +34,7 @@ mutual
   places_an_entry (index block places child) ok = placed_at-pos places (run block (flat child)) ok.1 (run-pos block (flat child) ok.0 (places_an_entry child ok.2))
   places_an_entry (group parts) ok = parts_place parts ok.0 ok.1
 
-  parts_place : (parts : Parts) → has_part parts → AreTrees parts → 0 < length (flat_parts parts)
+  pub parts_place : (parts : Parts) → has_part parts → AreTrees parts → 0 < length (flat_parts parts)
   parts_place no_parts has ok = absurd has
   parts_place (part block disp child rest) has ok =
       let here = run-pos block (flat child) ok.0 (places_an_entry child ok.1) in
@@ -60,7 +60,7 @@ first_block : (m : List Entry) (y : ℤ) (i : ℕ) (places : List ℤ) (block : 
     Sits m (get_or places 0 (pos 0) +ℤ y) (run block (flat child)) (i + 0 * length (run block (flat child)))
 first_block m y i places block child sits placed = sits_copy m y places (run block (flat child)) i 0 sits placed
 
-part_block : (m : List Entry) (y : ℤ) (i block : ℕ) (disp : ℤ) (child : Tree) (rest : Parts) → Sits m y (flat_parts (part block disp child rest)) i → Sits m (disp +ℤ y) (run block (flat child)) i
+pub part_block : (m : List Entry) (y : ℤ) (i block : ℕ) (disp : ℤ) (child : Tree) (rest : Parts) → Sits m y (flat_parts (part block disp child rest)) i → Sits m (disp +ℤ y) (run block (flat child)) i
 part_block m y i block disp child rest sits =
     sits_shifted disp (run block (flat child)) (sits_first (shift disp (run block (flat child))) (flat_parts rest) sits)
 

@@ -1,5 +1,5 @@
 use Rattle.std.specs.Prelude.{ℕ, ◌+◌, ◌*◌, length}
-use Rattle.dt_tree.specs.declared.weights.Weights.{Weights}
+use Rattle.dt_tree.specs.Weights.{Weights}
 use Rattle.dt_tree.specs.Tree.{Tree, leaf, vector, index, group, Parts, no_parts, part}
 
 -- what a tree costs: block lengths cost nothing

@@ -1,6 +1,6 @@
-use Rattle.std.specs.Prelude.{ℕ, ◌≤◌, ℤ, List}
+use Rattle.std.specs.Prelude.{◌≤◌, ℤ, List}
 use Rattle.dt_map.specs.declared.typemap.Entry.{Entry}
-use Rattle.dt_tree.specs.declared.weights.Weights.{Weights}
+use Rattle.dt_tree.specs.Weights.{Weights}
 use Rattle.dt_tree.specs.Tree.{Tree, Denotes}
 use Rattle.dt_tree.specs.Cost.{cost_of}
 

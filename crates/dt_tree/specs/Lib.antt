@@ -2,3 +2,4 @@ pub mod Cost
 pub mod Laws
 pub mod Least
 pub mod Tree
+pub mod Weights
