@@ -4,7 +4,10 @@ pub mod Digests
 pub mod Examples
 pub mod Extremes
 pub mod Leading
+pub mod Likeness
 pub mod Placings
 pub mod Rounding
+pub mod Seats
+pub mod Stacks
 pub mod Summaries
 pub mod Writing

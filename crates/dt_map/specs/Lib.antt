@@ -1,3 +1,6 @@
+pub mod Alike
+pub mod AlikeLaws
+pub mod BlockLaws
 pub mod Bounds
 pub mod Constructors
 pub mod Counts
@@ -8,6 +11,7 @@ pub mod Limits
 pub mod Numbers
 pub mod Packed
 pub mod Placing
+pub mod Runs
 pub mod Setting
 pub mod Span
 pub mod Summary

@@ -81,7 +81,7 @@ fn greater_of(high: Option<i64>, x: i64) -> i64
 
 /// The upper bound without marks (MPI 4.1, section 5.1): the true one, and as much as makes the extent a multiple of
 /// the alignment. It passes the true one by less than the alignment.
-pub(crate) fn natural_end(true_lb: i64, true_ub: i64, align: u32) -> i64
+pub fn natural_end(true_lb: i64, true_ub: i64, align: u32) -> i64
     requires low { FitsDisp true_lb }
     requires high { FitsDisp true_ub }
     requires some { 0 < align }

@@ -21,7 +21,7 @@ use Rattle.dt_offsets.specs.declared.turns.Turns.{Turns}
 use Rattle.dt_type.specs.Datatype.{typemap_of}
 use Rattle.dt_offsets.specs.Offsets.{row_offsets, turn_offsets, grid_offsets}
 use Rattle.dt_type.specs.Shape.{part_members, placed_parts}
-use Rattle.dt_type.proofs.Digests.{length-copies}
+use Rattle.dt_map.proofs.Digests.{length-copies}
 use Rattle.dt_offsets.proofs.Reaches.{sums, count-row}
 
 pub slice_get-left : {X : Type 0} (a b : List X) (j : ℕ) → j < length a → slice_get (a ++ b) j ≡ slice_get a j

@@ -4,7 +4,7 @@ use Rattle.dt_type.specs.Digest.{digest_of, repeated}
 use Rattle.dt_offsets.specs.Reach.{reach}
 use Rattle.dt_offsets.specs.Offsets.{grid_offsets, spot_offsets}
 use Rattle.dt_type.specs.Shape.{placed_by}
-use Rattle.dt_type.proofs.Digests.{digest-copies}
+use Rattle.dt_map.proofs.Digests.{digest-copies}
 use Rattle.dt_type.proofs.digest.of_shape.Goals as goal
 
 pub returns-in-Grid : goal.returns-in-Grid

@@ -1,0 +1,26 @@
+use Rattle.std.specs.Prelude.{ℕ, ◌+◌, ◌*◌, ◌≤◌, ◌<◌, ◌+ℤ◌, ℤ, IsTrue, List, length}
+use Rattle.dt_map.specs.declared.entry.Entry.{Entry}
+use Rattle.dt_map.specs.Typemap.{shift}
+use Rattle.dt_map.specs.Alike.{segment, are_stacked}
+use Rattle.dt_tree.specs.Tree.{Tree, flat, IsTree, Denotes, IsBlockIn, IsWithin}
+
+-- each tree places an entry
+abbrev pub PlacesAnEntry : Type 0
+PlacesAnEntry = (tree : Tree) → IsTree tree → 0 < length (flat tree)
+
+-- a tree that stands for entries stands for them further on, from as much further on
+abbrev pub DenotesFurther : Type 0
+DenotesFurther = (tree : Tree) (base x : ℤ) (m : List Entry) → Denotes tree base m → Denotes tree (base +ℤ x) (shift x m)
+
+-- each subtree of a tree that stands for entries stands for a segment of them, from some base on
+abbrev pub SubtreesDenote : Type 0
+SubtreesDenote =
+    (tree node : Tree) (base : ℤ) (m : List Entry) → Denotes tree base m → IsWithin node tree
+    → (start : ℕ) × (y : ℤ) × (start + length (flat node) ≤ length m) × Denotes node y (segment m start (length (flat node)))
+
+-- and where it stands in a block, the copies of this block are stacked
+abbrev pub BlocksAreStacked : Type 0
+BlocksAreStacked =
+    (tree node : Tree) (n : ℕ) (base : ℤ) (m : List Entry) → Denotes tree base m → IsBlockIn n node tree
+    → (start : ℕ) × (y : ℤ) × (start + n * length (flat node) ≤ length m) × Denotes node y (segment m start (length (flat node)))
+    × IsTrue (are_stacked m start (length (flat node)) n)

@@ -1,0 +1,5 @@
+pub mod Cost
+pub mod Laws
+pub mod Least
+pub mod Tree
+pub mod Weights

@@ -1,0 +1,22 @@
+//! Laws of trees, stated over their definitions. The functions do nothing.
+ghost use Rattle.dt_tree.specs.Laws.{PlacesAnEntry, DenotesFurther, SubtreesDenote, BlocksAreStacked};
+
+/// Each tree places an entry.
+pub fn places_an_entry()
+    ensures { PlacesAnEntry }
+{}
+
+/// A tree that stands for entries stands for them further on, from as much further on.
+pub fn denotes_further()
+    ensures { DenotesFurther }
+{}
+
+/// Each subtree of a tree that stands for entries stands for a segment of them, from some base on.
+pub fn subtrees_denote()
+    ensures { SubtreesDenote }
+{}
+
+/// Where a subtree stands in a block, the copies of this block are stacked.
+pub fn blocks_are_stacked()
+    ensures { BlocksAreStacked }
+{}
