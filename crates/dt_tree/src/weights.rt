@@ -15,7 +15,7 @@ pub struct Weights {
 }
 
 impl Model for Weights {
-    ghost use Rattle.dt_tree.specs.Weights.{Weights, weights_of, AreLight, default_weights};
+    ghost use Rattle.dt_tree.specs.Weights.{Weights, weights_of, AreLight};
 
     ghost Value = { Weights };
 
@@ -27,6 +27,7 @@ impl Model for Weights {
 }
 
 impl Weights {
+    ghost use Rattle.dt_tree.specs.Weights.{weights_of, AreLight};
 
     /// The greatest weight that is taken.
     pub const MOST: u32 = 1_000_000;
@@ -111,6 +112,7 @@ impl Weights {
 }
 
 impl Default for Weights {
+    ghost use Rattle.dt_tree.specs.Weights.{default_weights};
 
     /// 1, 3, 2, 1, 2 and 2.
     fn default() -> Weights
