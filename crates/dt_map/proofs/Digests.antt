@@ -1,6 +1,6 @@
 -- Digests of copies and of joined typemaps, and the bounds that they tell.
-use Rattle.std.specs.Prelude.{◌≡◌, Option, ℕ, zero, suc, ◌+◌, ◌*◌, ◌<◌, ◌≤◌, ◌==◌, false, cond, ℤ, List, ◌++◌, length}
-use Rattle.std.proofs.Common.{refl, sym, ap, subst, ◌∙◌, arith}
+use Rattle.std.specs.Prelude.{◌≡◌, Option, ℕ, zero, suc, ◌+◌, ◌*◌, ◌≤◌, ◌==◌, false, cond, ℤ, List, ◌++◌, length}
+use Rattle.std.proofs.Common.{refl, sym, ap, ◌∙◌, arith}
 use Rattle.std.proofs.lemmas.Bool.Decides.{nat_tests}
 use Rattle.dt_map.specs.declared.bounds.Bounds.{Bounds}
 use Rattle.dt_map.specs.declared.bounds.TheConstants.{SIZE_MAX}
@@ -14,9 +14,7 @@ use Rattle.dt_map.specs.Typemap.{Marked}
 use Rattle.dt_map.proofs.Counted.{elements_fit, external_fits}
 use Rattle.dt_map.proofs.Summaries.{same_summary, summary_of_joined, summary_of_copies, bounds_from_summary, true_span_is}
 use Rattle.dt_offsets.specs.declared.marks.Marks.{Marks}
-use Rattle.dt_offsets.specs.declared.reach.Reach.{Reach}
 use Rattle.dt_offsets.specs.Reach.{capped, reach}
-use Rattle.dt_offsets.specs.Span.{reach_of}
 use Rattle.dt_offsets.proofs.Reaches.{below_most, capped-add, capped-mul, capped-mul-left}
 
 pub length-copies : (xs : List ℤ) (m : Marked) → length (copies_at xs m).entries ≡ length xs * length m.entries

@@ -1,20 +1,16 @@
 -- placing what was placed
-use Rattle.std.proofs.Common.{◌≡◌, ℕ, zero, suc, ◌+◌, ◌*◌, ◌/◌, ◌%◌, ◌≤◌, ◌<◌, ℤ, pos, negsuc, ◌+ℤ◌, ◌*ℤ◌, Option, Some, List, [], ◌∷◌, ◌++◌, map, refl, sym, ap, ◌∙◌, arith, append_assoc, append-nil}
-use Rattle.std.proofs.lemmas.Int.{ints, clamps}
+use Rattle.std.proofs.Common.{◌≡◌, ℤ, ◌+ℤ◌, Option, List, [], ◌∷◌, ◌++◌, map, refl, sym, ap, ◌∙◌, arith}
+use Rattle.std.proofs.lemmas.Int.{ints}
 use Rattle.std.proofs.lemmas.List.{map-append}
-use Rattle.std.proofs.lemmas.Nat.{div-mul-add, mod-mul-add}
 use Rattle.std.proofs.lemmas.Grind.{flat_map-append}
-use Rattle.std.specs.Int.{int_min, int_max}
 use Rattle.std.specs.List.{flat_map}
 use Rattle.dt_map.specs.declared.entry.Entry.{Entry}
 use Rattle.dt_offsets.specs.declared.marks.Marks.{Marks}
-use Rattle.dt_offsets.specs.Offsets.{below, sums}
 use Rattle.dt_map.specs.Typemap.{Marked, shift, shift_entry}
-use Rattle.dt_offsets.specs.Span.{shift_marks, joined_marks, reach_of, point}
+use Rattle.dt_offsets.specs.Span.{shift_marks, joined_marks}
 use Rattle.dt_map.specs.Placing.{placed_marks, place}
-use Rattle.dt_offsets.specs.Laws.{ReachOfEven, ReachOfSums, InRows}
 use Rattle.dt_map.specs.Laws.{PlacingOfPlacing, further}
-use Rattle.dt_offsets.proofs.Spans.{both, stretched_more, spans-append, shift_marks-joined, shift_marks-shift_marks}
+use Rattle.dt_offsets.proofs.Spans.{shift_marks-joined, shift_marks-shift_marks}
 use Rattle.dt_map.proofs.Summaries.{placed_marks-append}
 
 -- shifts

@@ -1,5 +1,5 @@
 -- the natural upper bound is the least that makes the extent a multiple of the alignment
-use Rattle.std.proofs.Common.{◌≡◌, ℕ, zero, suc, ◌+◌, ◌-◌, ◌*◌, ◌/◌, ◌%◌, ◌≤◌, ◌<◌, ℤ, pos, negsuc, List, Option, Some, None, ◌+ℤ◌, ◌-ℤ◌, ◌≤ℤ◌, nat_abs, ◌⊎◌, inl, inr, sym, ap, ◌∙◌, arith}
+use Rattle.std.proofs.Common.{◌≡◌, ℕ, zero, suc, ◌+◌, ◌-◌, ◌*◌, ◌/◌, ◌%◌, ◌≤◌, ◌<◌, ℤ, pos, List, Option, Some, None, ◌+ℤ◌, ◌-ℤ◌, ◌≤ℤ◌, nat_abs, ◌⊎◌, inl, inr, sym, ap, ◌∙◌, arith}
 use Rattle.std.proofs.lemmas.Int.{ints}
 use Rattle.std.proofs.lemmas.Bool.{cases_lt}
 use Rattle.std.proofs.Math.Nat.{mod_self, mod-eq_of_lt, mod-lt, mod-add-div, add-mul-mod_self_left}

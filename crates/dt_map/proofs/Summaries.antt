@@ -2,7 +2,7 @@
 use Rattle.std.proofs.Common.{◌≡◌, ℕ, zero, suc, ◌<◌, max, ℤ, pos, ◌+ℤ◌, Option, Some, None, List, [], ◌∷◌, ◌++◌, map, length, refl, sym, ap, ◌∙◌, arith, length-append, append-nil, unwrap_or, option_map}
 use Rattle.std.specs.Prelude.{cond, ◌==◌}
 use Rattle.std.proofs.Math.Dec.{eqb-suc-zero}
-use Rattle.std.proofs.lemmas.Int.{ints, clamps}
+use Rattle.std.proofs.lemmas.Int.{ints}
 use Rattle.std.proofs.lemmas.List.Sums.{sum_by-append, sum_by-cons}
 use Rattle.std.proofs.lemmas.Grind.{flat_map-append}
 use Rattle.std.specs.List.{flat_map}
@@ -10,7 +10,7 @@ use Rattle.dt_kinds.specs.Kind.{native_size, external_size}
 use Rattle.dt_map.specs.declared.entry.Entry.{Entry}
 use Rattle.dt_offsets.specs.declared.marks.Marks.{Marks}
 use Rattle.dt_map.specs.Typemap.{Marked, shift, shift_entry}
-use Rattle.dt_offsets.specs.Span.{shift_marks, joined_marks, spans, reach_of, stretched, point}
+use Rattle.dt_offsets.specs.Span.{shift_marks, joined_marks, reach_of, point}
 use Rattle.dt_map.specs.Bounds.{bounds_of, end_of, size_of, external_size_of, alignment, true_lb, true_ub, lower_from, upper_from, natural_end}
 use Rattle.dt_map.specs.Numbers.{lesser, greater, least, greatest}
 use Rattle.dt_map.specs.Placing.{placed_marks}

@@ -1,5 +1,4 @@
-use Rattle.std.specs.Prelude.{◌≡◌, ℕ, suc, ◌+◌, ◌-◌, ◌*◌, ◌/◌, ◌%◌, ◌≤◌, ◌<◌, ◌+ℤ◌, ◌-ℤ◌, ◌*ℤ◌, ◌≤ℤ◌, ℤ, pos, negsuc, nat_abs, IsTrue, slice_index, slice_index_or, Some, List, [], ◌∷◌, ◌++◌, map, length, take, drop}
-use Rattle.std.specs.Int.{int_min, int_max}
+use Rattle.std.specs.Prelude.{◌≡◌, ℕ, suc, ◌+◌, ◌-◌, ◌*◌, ◌%◌, ◌≤◌, ◌<◌, ◌+ℤ◌, ◌-ℤ◌, ◌*ℤ◌, ◌≤ℤ◌, ℤ, pos, nat_abs, IsTrue, slice_index, slice_index_or, List, [], ◌∷◌, ◌++◌, map, length, take, drop}
 use Rattle.std.specs.List.{flat_map, All}
 use Rattle.dt_kinds.specs.declared.kind.Rep.{Rep}
 use Rattle.dt_kinds.specs.declared.displacement.TheConstants.{DISP_MAX}
@@ -18,7 +17,7 @@ use Rattle.dt_map.specs.Limits.{Fits}
 use Rattle.dt_map.specs.Packed.{packed, total}
 use Rattle.dt_map.specs.Setting.{done, set_each}
 use Rattle.dt_map.specs.Summary.{summary_of, no_summary, shifted, joined, copied, bounds_from}
-use Rattle.dt_offsets.specs.Span.{reach_of, stretched}
+use Rattle.dt_offsets.specs.Span.{reach_of}
 
 -- the padding makes a number a multiple, and no lesser one does
 abbrev pub PaddingIsLeast : Type 0

@@ -1,4 +1,4 @@
-use Rattle.std.specs.Prelude.{Option, Some, None, ℕ, zero, suc, ◌-◌, ◌%◌, ℤ, List, [], ◌∷◌, ◌++◌}
+use Rattle.std.specs.Prelude.{Option, Some, None, ℕ, ◌-◌, ◌%◌, ℤ, List, [], ◌∷◌}
 use Rattle.std.specs.Int.{int_min, int_max}
 
 -- the lesser of two numbers, where either may be missing

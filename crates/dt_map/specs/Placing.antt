@@ -1,4 +1,4 @@
-use Rattle.std.specs.Prelude.{Option, Some, None, ℤ, List, [], ◌∷◌}
+use Rattle.std.specs.Prelude.{Option, None, ℤ, List, [], ◌∷◌}
 use Rattle.std.specs.List.{flat_map}
 use Rattle.dt_offsets.specs.declared.marks.Marks.{Marks}
 use Rattle.dt_map.specs.Typemap.{Marked, shift}

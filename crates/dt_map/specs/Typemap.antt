@@ -1,4 +1,4 @@
-use Rattle.std.specs.Prelude.{Option, Some, None, ◌+ℤ◌, ℤ, List, map}
+use Rattle.std.specs.Prelude.{Option, ◌+ℤ◌, ℤ, List, map}
 use Rattle.dt_map.specs.declared.entry.Entry.{Entry}
 use Rattle.dt_offsets.specs.declared.marks.Marks.{Marks}
 

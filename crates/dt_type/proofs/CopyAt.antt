@@ -5,7 +5,7 @@ use Rattle.std.proofs.Common.{ap, ◌∙◌, arith}
 use Rattle.std.proofs.Math.Nat.{div-lt_iff_lt-mul, mul-div_cancel}
 use Rattle.dt_map.specs.Constructors.{copies_at}
 use Rattle.dt_map.specs.Typemap.{Marked, shift_entry}
-use Rattle.dt_type.proofs.Digests.{length-copies}
+use Rattle.dt_map.proofs.Digests.{length-copies}
 use Rattle.dt_offsets.proofs.GridAt.{pos_right}
 use Rattle.dt_type.proofs.Lookups.{copy_at}
 

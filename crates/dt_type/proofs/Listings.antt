@@ -23,7 +23,7 @@ use Rattle.dt_offsets.specs.declared.turns.Turns.{Turns}
 use Rattle.dt_type.specs.Datatype.{typemap_of, entries_of}
 use Rattle.dt_type.specs.Listing.{entries_at, HaveDisps}
 use Rattle.dt_type.specs.Shape.{placed_by, placed_parts}
-use Rattle.dt_type.proofs.Digests.{length-copies}
+use Rattle.dt_map.proofs.Digests.{length-copies}
 use Rattle.dt_type.proofs.EntryFits.{entries_fit}
 use Rattle.dt_offsets.proofs.GridAt.{pos_right, row_at}
 use Rattle.dt_type.proofs.Lookups.{part_entries, entries-parts}

@@ -1,41 +1,13 @@
--- What a digest says of the typemap under a cover, and that only the first limit is answered.
-use Rattle.std.specs.Prelude.{◌≡◌, Option, ◌≤◌, ◌↔◌, Err, IsErrOf}
-use Rattle.std.proofs.Common.{refl, sym, ap, subst, ◌∙◌, arith}
-use Rattle.dt_offsets.specs.declared.marks.Marks.{Marks}
-use Rattle.dt_map.specs.Bounds.{bounds_of}
+-- Only the first limit is answered.
+use Rattle.std.specs.Prelude.{◌↔◌, Err, IsErrOf}
+use Rattle.std.proofs.Common.{refl}
+use Rattle.dt_map.specs.Limits.{IsInRange}
 use Rattle.dt_map.specs.Typemap.{Marked}
-use Rattle.dt_map.proofs.Extremes.{alignment-pos}
 use Rattle.dt_type.specs.declared.datatype.Seen.{Seen}
-use Rattle.dt_type.specs.declared.digest.Digest.{Digest}
 use Rattle.dt_type.specs.declared.fault.CtorFault.{CtorFault}
 use Rattle.dt_type.specs.declared.fault.CtorFault.TheVariants.{BadArgument, Overflow, TooDeep, TooHeavy, NoMemory}
 use Rattle.dt_type.specs.declared.form.FormOf.{FormOf}
-use Rattle.dt_type.specs.declared.shape.Cover.{Cover}
-use Rattle.dt_map.specs.Limits.{AreInRange, IsInRange}
-use Rattle.dt_type.specs.Digest.{digest_of}
 use Rattle.dt_type.specs.Measure.{IsRefusal}
-use Rattle.dt_type.specs.Range.{bounds_from}
-use Rattle.dt_type.specs.Shape.{covered, covered_marks}
-use Rattle.dt_type.proofs.DigestBounds.{told, tells}
-
-module _ (m : Marked) (cover : Cover) (d : Digest) (marks : Option Marks) (known : d ≡ digest_of m) (left : marks ≡ covered_marks cover d.marks) where
-  pub left_of : marks ≡ covered_marks cover m.marks
-  left_of = left ∙ ap (λ (x : Digest). covered_marks cover x.marks) known
-
-  same : bounds_from d marks ≡ bounds_from (digest_of m) (covered_marks cover m.marks)
-  same = ap (λ x. bounds_from x marks) known ∙ ap (bounds_from (digest_of m)) left_of
-
-  pub exact : AreInRange (bounds_from d marks) → bounds_from d marks ≡ bounds_of (covered cover m)
-  exact range = same ∙ told m (covered_marks cover m.marks) (subst AreInRange same range)
-
-  pub covered_range : AreInRange (bounds_from d marks) → IsInRange (covered cover m)
-  covered_range range = subst AreInRange (exact range) range
-
-  pub out_of_range : IsInRange (covered cover m) → AreInRange (bounds_from d marks)
-  out_of_range range = subst AreInRange (sym same) (tells m (covered_marks cover m.marks) range)
-
-  pub aligned : 1 ≤ d.align
-  aligned = let h = alignment-pos m.entries in let e = ap (λ (x : Digest). x.align) known in omega arith
 
 pub overflow_only : {T : Type 0} (m : Marked) (f : FormOf Seen) (fault : CtorFault) → IsRefusal m f fault → IsErrOf {T = T} (Err fault) Overflow ↔ ¬ IsInRange m
 overflow_only m f Overflow h = ((λ e. h), λ n. refl)

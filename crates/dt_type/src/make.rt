@@ -1,37 +1,23 @@
 //! The door through which every derived datatype comes.
 ghost use Rattle.std.specs.Prelude.{◌≡◌, ◌≤◌, ◌<◌, ◌↔◌, IfOk, IsErrOf, MatchResult};
-ghost use Rattle.dt_type.specs.Conditions.{HasNumbers, IsShapeFor};
+ghost use Rattle.dt_type.specs.Conditions.{HasNumbers};
+ghost use Rattle.dt_type.specs.Cover.{covered};
 ghost use Rattle.dt_map.specs.Limits.{IsInRange};
 ghost use Rattle.dt_type.specs.Form as spec;
 ghost use Rattle.dt_type.specs.Form.{result_of, map_by};
 ghost use Rattle.dt_type.specs.Measure.{IsMeasure, IsRefusal};
-ghost use Rattle.dt_type.specs.Shape.{placed_by, covered, covered_marks};
+ghost use Rattle.dt_type.specs.Shape.{placed_by};
+ghost use Rattle.dt_type.specs.ShapeFor.{IsShapeFor};
 
 use crate::datatype::{Datatype, Node};
-use crate::digest::{Digest, of_shape, wide};
+use crate::digest::of_covered;
 use crate::fault::CtorFault;
 use crate::form::Form;
+use crate::limits::{DEPTH_MAX, WEIGHT_MAX};
 use crate::measures::{depth_by, weight_by};
-use crate::range::{bounds_from, narrow_marks};
 use crate::shape::{Cover, Shape};
-use crate::span::Span;
 use dt_map::{Bounds, Marks};
 use std::alloc::Global;
-
-/// The greatest depth and the greatest weight of a datatype.
-const DEPTH_MAX: u64 = 64;
-
-const WEIGHT_MAX: u64 = 65_536;
-
-/// The marks that a cover leaves.
-fn marks_under(cover: Cover, digest: &Digest) -> Option<Span>
-    ensures { result ≡ covered_marks cover digest.now.marks }
-{
-    match cover {
-        Cover::Keep => digest.marks,
-        Cover::Erase(marks) => wide(Some(marks)),
-    }
-}
 
 /// What a node keeps beside its shape and its form.
 #[derive(Clone, Copy)]
@@ -47,9 +33,8 @@ fn measured(shape: &Shape, cover: Cover, form: &Form) -> Result<Measure, CtorFau
     requires { HasNumbers shape.now }
     ensures { MatchResult result (IsMeasure (covered cover (placed_by shape.now)) form.now) (IsRefusal (covered cover (placed_by shape.now)) form.now) }
 {
-    let digest = of_shape(shape);
-    let marks = marks_under(cover, &digest);
-    let Some(bounds) = bounds_from(&digest, &marks) else {
+    let digest = of_covered(shape, cover);
+    let Some(bounds) = digest.bounds() else {
         return Err(CtorFault::Overflow);
     };
     let depth = depth_by(form);
@@ -61,7 +46,7 @@ fn measured(shape: &Shape, cover: Cover, form: &Form) -> Result<Measure, CtorFau
         return Err(CtorFault::TooHeavy);
     }
     Ok(Measure {
-        marks: narrow_marks(&marks),
+        marks: digest.marks(),
         bounds,
         weight,
         depth: depth as u32,

@@ -1,8 +1,9 @@
 //! How heavy and how deep a form makes its datatype.
 ghost use Rattle.std.specs.Prelude.{◌≡◌, map};
-ghost use Rattle.std.specs.List.{sum_by};
+ghost use Rattle.std.specs.List.{AllByRecursion, sum_by};
 ghost use Rattle.dt_type.specs.Datatype.{weight_of};
 ghost use Rattle.dt_type.specs.Form as spec;
+ghost use Rattle.dt_type.specs.Whole.{IsWhole};
 ghost use Rattle.dt_offsets.specs.Reach.{capped};
 
 use crate::form::{Form, FormOf, Part};
@@ -48,7 +49,8 @@ fn weight_of_parts(parts: &[Part]) -> u64
 
 /// The depth of the deepest old type of parts.
 fn depth_of_parts(parts: &[Part]) -> u32
-    ensures { result ≡ spec.deepest (map (λ p. p.old) parts.now) }
+    ensures value { result ≡ spec.deepest (map (λ p. p.old) parts.now) }
+    ensures whole { AllByRecursion IsWhole (map (λ p. p.old) parts.now) }
 {
     let mut depth: u32 = 0;
     for part in parts {
@@ -80,7 +82,8 @@ fn weight_of_olds(form: &Form) -> u64
 
 /// The depth of the deepest old type.
 fn depth_of_olds(form: &Form) -> u32
-    ensures { result ≡ spec.deepest (spec.olds_of form.now) }
+    ensures value { result ≡ spec.deepest (spec.olds_of form.now) }
+    ensures whole { AllByRecursion IsWhole (spec.olds_of form.now) }
 {
     match form {
         FormOf::Named(_) => 0,
@@ -109,7 +112,8 @@ pub(crate) fn weight_by(form: &Form) -> u64
 
 /// The depth of the datatype that a form makes, up to the greatest `u64`.
 pub(crate) fn depth_by(form: &Form) -> u64
-    ensures { result ≡ capped (spec.depth_by form.now) }
+    ensures value { result ≡ capped (spec.depth_by form.now) }
+    ensures whole { AllByRecursion IsWhole (spec.olds_of form.now) }
 {
     let levels = levels_of(form) as u64;
     levels.saturating_add(u64::from(depth_of_olds(form)))

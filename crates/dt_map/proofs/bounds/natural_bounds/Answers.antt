@@ -1,4 +1,4 @@
-use Rattle.std.proofs.Common.{◌≡◌, ◌+ℤ◌, take, get_or, rules, arith, to_z, of_z, w64, pos}
+use Rattle.std.proofs.Common.{◌≡◌, ◌+ℤ◌, get_or, rules, arith, to_z, of_z, w64, pos}
 use Rattle.std.proofs.lemmas.Int.{ints, to_z-of_z}
 use Rattle.std.proofs.lemmas.List.Sums.{sum_by_more, sum_by_more_le}
 use Rattle.std.proofs.lemmas.List.{take_all}
