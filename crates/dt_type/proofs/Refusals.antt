@@ -9,7 +9,7 @@ use Rattle.dt_type.specs.declared.datatype.Seen.{Seen}
 use Rattle.dt_type.specs.declared.digest.Digest.{Digest}
 use Rattle.dt_type.specs.declared.fault.CtorFault.{CtorFault}
 use Rattle.dt_type.specs.declared.fault.CtorFault.TheVariants.{BadArgument, Overflow, TooDeep, TooHeavy, NoMemory}
-use Rattle.dt_type.specs.declared.form.FormOf.{FormOf}
+use Rattle.dt_form.specs.declared.form.FormOf.{FormOf}
 use Rattle.dt_type.specs.declared.shape.Cover.{Cover}
 use Rattle.dt_type.specs.Datatype.{AreInRange, IsInRange}
 use Rattle.dt_type.specs.Digest.{digest_of}

@@ -1,11 +1,9 @@
-pub mod Arguments
 pub mod Arrays
 pub mod Basic
 pub mod Conditions
 pub mod Constructors
 pub mod Contents
 pub mod Datatype
-pub mod Decoding
 pub mod Digest
 pub mod Falls
 pub mod Flatten

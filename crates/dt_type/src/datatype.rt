@@ -2,15 +2,16 @@
 ghost use Rattle.std.specs.Prelude.{◌≡◌, ◌≤◌, ◌<◌, IsTrue, IfOk};
 ghost use Rattle.std.specs.List.{AllByRecursion};
 ghost use Rattle.dt_map.specs.Bounds.{bounds_of};
-ghost use Rattle.dt_type.specs.Arguments.{takes_arguments};
+ghost use Rattle.dt_form.specs.Arguments.{takes_arguments};
 ghost use Rattle.dt_type.specs.Conditions.{IsShapeFor};
 ghost use Rattle.dt_type.specs.Datatype.{typemap_of, entries_of, marks_of, form_of, weight_of, depth_of, IsInRange};
-ghost use Rattle.dt_type.specs.Form.{result_of, map_by, items_of};
+ghost use Rattle.dt_type.specs.Form.{result_of, map_by};
+ghost use Rattle.dt_form.specs.Form.{items_of};
 ghost use Rattle.dt_type.specs.Shape.{placed_by, olds_of as placed_olds};
 ghost use Rattle.dt_type.specs.Sound.{Sound};
 
-use crate::form::{Form, FormOf};
 use crate::shape::{Shape, ShapeOf};
+use dt_form::{ContentsOf, FormOf, PartOf};
 use dt_kinds::{Kind, NoMemory};
 use dt_map::{Bounds, Entry, Marks};
 use sqlite_items::{Boxed, Items};
@@ -34,6 +35,15 @@ pub struct Seen {
 pub struct Datatype {
     node: Rc<Node>,
 }
+
+/// The constructor and the arguments of a datatype.
+pub type Form = FormOf<Datatype>;
+
+/// A part of a struct.
+pub type Part = PartOf<Datatype>;
+
+/// The arguments of a datatype, in three lists.
+pub type Contents = ContentsOf<Datatype>;
 
 #[cycle(datatype)]
 #[derive(Drop)]

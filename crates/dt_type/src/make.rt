@@ -7,10 +7,9 @@ ghost use Rattle.dt_type.specs.Form.{result_of, map_by};
 ghost use Rattle.dt_type.specs.Measure.{IsMeasure, IsRefusal};
 ghost use Rattle.dt_type.specs.Shape.{placed_by, covered, covered_marks};
 
-use crate::datatype::{Datatype, Node};
+use crate::datatype::{Datatype, Form, Node};
 use crate::digest::{Digest, of_shape, wide};
 use crate::fault::CtorFault;
-use crate::form::Form;
 use crate::measures::{depth_by, weight_by};
 use crate::range::{bounds_from, narrow_marks};
 use crate::shape::{Cover, Shape};
