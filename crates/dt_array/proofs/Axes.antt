@@ -6,8 +6,8 @@ use Rattle.std.proofs.lemmas.Bool.{cases_lt}
 use Rattle.std.proofs.Math.Nat.{mod-eq_of_lt, div-eq_of_lt, mul-le-mul_left, mul-le-mul_right}
 use Rattle.std.proofs.lemmas.Nat.{div-add-mod'}
 use Rattle.dt_offsets.specs.Offsets.{below}
-use Rattle.dt_type.specs.declared.form.Dist.TheVariants.{Whole}
-use Rattle.dt_type.specs.declared.form.DistDim.{DistDim}
+use Rattle.dt_form.specs.declared.form.Dist.TheVariants.{Whole}
+use Rattle.dt_form.specs.declared.form.DistDim.{DistDim}
 use Rattle.dt_type.specs.Arrays.{Axis, dealt, darg_from}
 use Rattle.dt_array.specs.declared.indices.Indices.{Indices}
 use Rattle.dt_array.specs.Dealt.{axis_at}

@@ -7,11 +7,11 @@ use Rattle.std.proofs.lemmas.Int.{ints}
 use Rattle.std.proofs.lemmas.List.{map-append, take_more, at_drop_more, at_drop_all, append-nil, length-map}
 use Rattle.std.proofs.Math.Nat.{mul-one, one-le-mul, mul-div_cancel_left, mod-lt}
 use Rattle.dt_type.specs.declared.datatype.Seen.{Seen}
-use Rattle.dt_type.specs.declared.form.DistDim.{DistDim}
-use Rattle.dt_type.specs.declared.form.FormOf.TheVariants.{Darray}
-use Rattle.dt_type.specs.declared.form.Order.{Order}
-use Rattle.dt_type.specs.Arguments.{is_positive, takes_dist_dim, takes_darg, takes_psize, takes_arguments}
-use Rattle.dt_type.specs.Arrays.{product, coordinate, darray_axes}
+use Rattle.dt_form.specs.declared.form.DistDim.{DistDim}
+use Rattle.dt_form.specs.declared.form.FormOf.TheVariants.{Darray}
+use Rattle.dt_form.specs.declared.form.Order.{Order}
+use Rattle.dt_form.specs.Arguments.{is_positive, takes_dist_dim, takes_darg, takes_psize, takes_arguments, product}
+use Rattle.dt_type.specs.Arrays.{coordinate, darray_axes}
 use Rattle.dt_type.specs.Form.{array}
 use Rattle.dt_offsets.specs.Reach.{capped}
 use Rattle.dt_offsets.proofs.Reaches.{capped-mul-left}

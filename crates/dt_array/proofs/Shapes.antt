@@ -13,13 +13,14 @@ use Rattle.dt_map.specs.Typemap.{Marked, shift}
 use Rattle.dt_type.specs.declared.datatype.Seen.{Seen}
 use Rattle.dt_type.specs.declared.fault.CtorFault.{CtorFault}
 use Rattle.dt_type.specs.declared.fault.CtorFault.TheVariants.{BadArgument, Overflow, TooDeep, TooHeavy, NoMemory}
-use Rattle.dt_type.specs.declared.form.FormOf.{FormOf}
-use Rattle.dt_type.specs.declared.form.Order.{Order}
-use Rattle.dt_type.specs.declared.form.Order.TheVariants.{C, Fortran}
+use Rattle.dt_form.specs.declared.form.FormOf.{FormOf}
+use Rattle.dt_form.specs.declared.form.Order.{Order}
+use Rattle.dt_form.specs.declared.form.Order.TheVariants.{C, Fortran}
 use Rattle.dt_type.specs.declared.shape.Cover.TheVariants.{Erase}
 use Rattle.dt_type.specs.declared.shape.ShapeOf.TheVariants.{Grid}
 use Rattle.dt_offsets.specs.declared.turns.Turns.{Turns}
-use Rattle.dt_type.specs.Arrays.{product, chosen_places}
+use Rattle.dt_form.specs.Arguments.{product}
+use Rattle.dt_type.specs.Arrays.{chosen_places}
 use Rattle.dt_type.specs.Conditions.{AreShapeTurns, AreNested, IsShapeFor}
 use Rattle.dt_type.specs.Datatype.{typemap_of, entries_of}
 use Rattle.dt_map.specs.Limits.{IsInRange}

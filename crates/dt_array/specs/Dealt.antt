@@ -1,5 +1,5 @@
 use Rattle.std.specs.Prelude.{ℕ, nat_abs}
-use Rattle.dt_type.specs.declared.form.DistDim.{DistDim}
+use Rattle.dt_form.specs.declared.form.DistDim.{DistDim}
 use Rattle.dt_type.specs.Arrays.{Axis, dealt, darg_from}
 
 -- a dimension, and the indices that the process with coordinate r holds

@@ -4,9 +4,9 @@ ghost use Rattle.std.specs.List.{list_all};
 ghost use Rattle.dt_array.specs.Dealt.{axis_at};
 ghost use Rattle.dt_array.specs.Indices.{AreInside, axis_of, IsPart};
 ghost use Rattle.dt_ctor.specs.Answer.{IsAnswer, IfMemory};
-ghost use Rattle.dt_type.specs.Arguments as spec;
-ghost use Rattle.dt_type.specs.Arguments.{takes_dist_dim, takes_grid};
-ghost use Rattle.dt_type.specs.Arrays.{product, darg_from, darray_axes};
+ghost use Rattle.dt_form.specs.Arguments as spec;
+ghost use Rattle.dt_form.specs.Arguments.{takes_dist_dim, takes_grid, product};
+ghost use Rattle.dt_type.specs.Arrays.{darg_from, darray_axes};
 ghost use Rattle.dt_offsets.specs.Reach.{capped};
 
 use crate::built::{array_of, copied, shared};

@@ -3,7 +3,7 @@ ghost use Rattle.std.specs.Prelude.{◌≡◌, ◌+ℤ◌, int_le, IsTrue, map};
 ghost use Rattle.std.specs.List.{list_all};
 ghost use Rattle.dt_array.specs.Indices.{AreInside, axis_of, IsPart};
 ghost use Rattle.dt_ctor.specs.Answer.{IsAnswer, IfMemory};
-ghost use Rattle.dt_type.specs.Arguments.{takes_sub_dim};
+ghost use Rattle.dt_form.specs.Arguments.{takes_sub_dim};
 ghost use Rattle.dt_type.specs.Arrays.{subarray_axis};
 
 use crate::built::{array_of, copied, shared};

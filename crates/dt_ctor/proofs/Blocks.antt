@@ -9,7 +9,7 @@ use Rattle.dt_map.specs.Constructors.{copies_at}
 use Rattle.dt_offsets.specs.Offsets.{below, turn_offset, turn_offsets}
 use Rattle.dt_offsets.proofs.Rows.{in_rows_of}
 use Rattle.dt_type.specs.declared.datatype.Seen.{Seen}
-use Rattle.dt_type.specs.declared.form.FormOf.TheVariants.{Contiguous, Vector, Hvector}
+use Rattle.dt_form.specs.declared.form.FormOf.TheVariants.{Contiguous, Vector, Hvector}
 use Rattle.dt_type.specs.declared.shape.ShapeOf.{ShapeOf}
 use Rattle.dt_type.specs.declared.shape.ShapeOf.TheVariants.{Grid}
 use Rattle.dt_offsets.specs.declared.turns.Turns.{Turns}

@@ -8,11 +8,11 @@ use Rattle.dt_map.specs.Bounds.{extent_of}
 use Rattle.dt_map.specs.Constructors.{copies_at}
 use Rattle.dt_map.specs.Placing.{place}
 use Rattle.dt_type.specs.declared.datatype.Seen.{Seen}
-use Rattle.dt_type.specs.declared.form.AddrBlock.{AddrBlock}
-use Rattle.dt_type.specs.declared.form.FormOf.{FormOf}
-use Rattle.dt_type.specs.declared.form.FormOf.TheVariants.{Indexed, Hindexed, IndexedBlock, HindexedBlock, Struct}
-use Rattle.dt_type.specs.declared.form.IntBlock.{IntBlock}
-use Rattle.dt_type.specs.declared.form.PartOf.{PartOf}
+use Rattle.dt_form.specs.declared.form.AddrBlock.{AddrBlock}
+use Rattle.dt_form.specs.declared.form.FormOf.{FormOf}
+use Rattle.dt_form.specs.declared.form.FormOf.TheVariants.{Indexed, Hindexed, IndexedBlock, HindexedBlock, Struct}
+use Rattle.dt_form.specs.declared.form.IntBlock.{IntBlock}
+use Rattle.dt_form.specs.declared.form.PartOf.{PartOf}
 use Rattle.dt_type.specs.declared.shape.ShapeOf.TheVariants.{Each, Seq}
 use Rattle.dt_type.specs.declared.shape.ShapePartOf.{ShapePartOf}
 use Rattle.dt_offsets.specs.declared.turns.Spot.{Spot}
@@ -20,7 +20,7 @@ use Rattle.dt_offsets.specs.Near.{IsSpot}
 use Rattle.dt_type.specs.Conditions.{IsShapePart}
 use Rattle.dt_type.specs.Constructors.{extents_offsets, block_offsets}
 use Rattle.dt_type.specs.Datatype.{typemap_of}
-use Rattle.dt_type.specs.Form as form
+use Rattle.dt_form.specs.Form as form
 use Rattle.dt_type.specs.Form.{map_by}
 use Rattle.dt_type.specs.Shape as shape
 use Rattle.dt_offsets.specs.Offsets.{row_offsets, spot_offsets}

@@ -3,7 +3,7 @@ ghost use Rattle.std.specs.Prelude.{◌≡◌, ◌≤◌, ◌^◌, ◌*ℤ◌, n
 ghost use Rattle.dt_ctor.specs.Answer.{IsAnswer, IfMemory};
 ghost use Rattle.dt_ctor.specs.Places.{Places};
 ghost use Rattle.dt_map.specs.Bounds.{extent_of as extent_by};
-ghost use Rattle.dt_type.specs.Arguments.{takes_arguments};
+ghost use Rattle.dt_form.specs.Arguments.{takes_arguments};
 ghost use Rattle.dt_offsets.specs.Near.{IsFactor};
 ghost use Rattle.dt_type.specs.Conditions.{IsShapeFor};
 ghost use Rattle.dt_type.specs.Datatype.{typemap_of};

@@ -4,7 +4,7 @@ ghost use Rattle.std.specs.List.{AllByRecursion, list_all};
 ghost use Rattle.dt_ctor.specs.Answer.{IsAnswer, IfMemory};
 ghost use Rattle.dt_ctor.specs.Places.{Places};
 ghost use Rattle.dt_ctor.specs.Rows.{int_row, addr_row};
-ghost use Rattle.dt_type.specs.Arguments.{is_count};
+ghost use Rattle.dt_form.specs.Arguments.{is_count};
 ghost use Rattle.dt_offsets.specs.Near.{IsSpot};
 
 use crate::built::{built, copied, extent_of, extents, shared};

@@ -9,9 +9,9 @@ use Rattle.dt_script.specs.declared.command.NamedPart.{NamedPart}
 use Rattle.dt_type.specs.declared.datatype.Seen.{Seen}
 use Rattle.dt_type.specs.declared.fault.CtorFault.{CtorFault}
 use Rattle.dt_type.specs.declared.fault.CtorFault.TheVariants.{NoMemory}
-use Rattle.dt_type.specs.declared.form.FormOf.{FormOf}
-use Rattle.dt_type.specs.declared.form.FormOf.TheVariants as form
-use Rattle.dt_type.specs.declared.form.PartOf.{PartOf}
+use Rattle.dt_form.specs.declared.form.FormOf.{FormOf}
+use Rattle.dt_form.specs.declared.form.FormOf.TheVariants as form
+use Rattle.dt_form.specs.declared.form.PartOf.{PartOf}
 use Rattle.dt_machine.specs.State.{State, type_of, old_of}
 
 -- whether a test holds of some word that names an old type

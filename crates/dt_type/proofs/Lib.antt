@@ -1,7 +1,5 @@
 pub mod CopyAt
 pub mod Counted
-pub mod Counts
-pub mod Decodings
 pub mod Digests
 pub mod EntryFits
 pub mod Examples

@@ -6,7 +6,7 @@ use Rattle.dt_map.specs.Typemap.{Marked}
 use Rattle.dt_type.specs.declared.datatype.Seen.{Seen}
 use Rattle.dt_type.specs.declared.fault.CtorFault.{CtorFault}
 use Rattle.dt_type.specs.declared.fault.CtorFault.TheVariants.{BadArgument, Overflow, TooDeep, TooHeavy, NoMemory}
-use Rattle.dt_type.specs.declared.form.FormOf.{FormOf}
+use Rattle.dt_form.specs.declared.form.FormOf.{FormOf}
 use Rattle.dt_type.specs.Measure.{IsRefusal}
 
 pub overflow_only : {T : Type 0} (m : Marked) (f : FormOf Seen) (fault : CtorFault) → IsRefusal m f fault → IsErrOf {T = T} (Err fault) Overflow ↔ ¬ IsInRange m

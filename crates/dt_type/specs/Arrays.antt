@@ -1,16 +1,13 @@
 use Rattle.std.specs.Prelude.{Option, Some, None, ℕ, ◌+◌, ◌-◌, ◌*◌, ◌/◌, ◌%◌, ◌==◌, ℤ, nat_abs, List, [], ◌∷◌, map}
 use Rattle.std.specs.List.{filter, flat_map}
 use Rattle.dt_offsets.specs.Offsets.{below}
-use Rattle.dt_type.specs.declared.form.Dist.{Dist}
-use Rattle.dt_type.specs.declared.form.Dist.TheVariants.{Block, Cyclic, Whole}
-use Rattle.dt_type.specs.declared.form.DistDim.{DistDim}
-use Rattle.dt_type.specs.declared.form.Order.{Order}
-use Rattle.dt_type.specs.declared.form.Order.TheVariants.{C, Fortran}
-use Rattle.dt_type.specs.declared.form.SubDim.{SubDim}
-
-abbrev pub product : List ℕ → ℕ
-product [] = 1
-product (n ∷ ns) = n * product ns
+use Rattle.dt_form.specs.declared.form.Dist.{Dist}
+use Rattle.dt_form.specs.declared.form.Dist.TheVariants.{Block, Cyclic, Whole}
+use Rattle.dt_form.specs.declared.form.DistDim.{DistDim}
+use Rattle.dt_form.specs.declared.form.Order.{Order}
+use Rattle.dt_form.specs.declared.form.Order.TheVariants.{C, Fortran}
+use Rattle.dt_form.specs.declared.form.SubDim.{SubDim}
+use Rattle.dt_form.specs.Arguments.{product}
 
 -- a dimension of an array: how many indices it has, and those of them that are chosen, in rising order
 pub record Axis : Type 0 where

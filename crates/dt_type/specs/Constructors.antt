@@ -1,8 +1,8 @@
 use Rattle.std.specs.Prelude.{ℕ, ◌+ℤ◌, ◌*ℤ◌, ℤ, pos, nat_abs, List, map}
 use Rattle.std.specs.List.{flat_map}
 use Rattle.dt_offsets.specs.Offsets.{below}
-use Rattle.dt_type.specs.declared.form.AddrBlock.{AddrBlock}
-use Rattle.dt_type.specs.declared.form.IntBlock.{IntBlock}
+use Rattle.dt_form.specs.declared.form.AddrBlock.{AddrBlock}
+use Rattle.dt_form.specs.declared.form.IntBlock.{IntBlock}
 
 -- The offsets in bytes at which each constructor of MPI 4.1, section 5.1.2, places copies of an old type of some extent: block i
 -- first, then copy j in it.

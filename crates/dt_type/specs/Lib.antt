@@ -1,4 +1,3 @@
-pub mod Arguments
 pub mod Arrays
 pub mod Basic
 pub mod Conditions
@@ -6,7 +5,6 @@ pub mod Constructors
 pub mod Contents
 pub mod Cover
 pub mod Datatype
-pub mod Decoding
 pub mod Falls
 pub mod Flatten
 pub mod Form

@@ -5,11 +5,12 @@ use Rattle.dt_map.specs.Typemap.{Marked}
 use Rattle.dt_type.specs.declared.datatype.Seen.{Seen}
 use Rattle.dt_type.specs.declared.fault.CtorFault.{CtorFault}
 use Rattle.dt_type.specs.declared.fault.CtorFault.TheVariants.{BadArgument, Overflow, TooDeep, TooHeavy, NoMemory}
-use Rattle.dt_type.specs.declared.form.FormOf.{FormOf}
+use Rattle.dt_form.specs.declared.form.FormOf.{FormOf}
 use Rattle.dt_type.specs.declared.limits.TheConstants.{DEPTH_MAX, WEIGHT_MAX}
 use Rattle.dt_type.specs.declared.make.Measure.{Measure}
 use Rattle.dt_map.specs.Limits.{IsInRange}
-use Rattle.dt_type.specs.Form.{olds_of, weight_by, depth_by}
+use Rattle.dt_form.specs.Form.{olds_of}
+use Rattle.dt_type.specs.Form.{weight_by, depth_by}
 use Rattle.dt_type.specs.Whole.{IsWhole}
 
 -- what a node keeps of a typemap and a form that pass no limit

@@ -1,10 +1,10 @@
 use Rattle.std.specs.Prelude.{◌≡◌, ◌≤◌, IsTrue}
 use Rattle.dt_type.specs.declared.datatype.Seen.{Seen}
-use Rattle.dt_type.specs.declared.form.FormOf.{FormOf}
+use Rattle.dt_form.specs.declared.form.FormOf.{FormOf}
 use Rattle.dt_type.specs.declared.shape.ShapeOf.{ShapeOf}
-use Rattle.dt_type.specs.Arguments.{takes_arguments}
+use Rattle.dt_form.specs.Arguments.{takes_arguments}
 use Rattle.dt_type.specs.Conditions.{HasNumbers}
-use Rattle.dt_type.specs.Form as form
+use Rattle.dt_form.specs.Form as form
 use Rattle.dt_type.specs.Shape as shape
 
 -- a shape with the numbers, the items and the old types that go with a form, and no more turns than the form has levels

@@ -9,7 +9,8 @@ use Rattle.dt_type.specs.ShapeFor.{IsShapeFor}
 use Rattle.dt_type.specs.Whole.{IsWhole}
 use Rattle.dt_type.specs.Datatype.{Layer}
 use Rattle.dt_map.specs.Limits.{IsInRange}
-use Rattle.dt_type.specs.Form.{map_by, olds_of, weight_by, depth_by}
+use Rattle.dt_type.specs.Form.{map_by, weight_by, depth_by}
+use Rattle.dt_form.specs.Form.{olds_of}
 use Rattle.dt_type.specs.Shape.{placed_by}
 
 -- a node's typemap is what its shape places, with the marks that it keeps

@@ -4,9 +4,10 @@ use Rattle.std.specs.List.{AllByRecursion}
 use Rattle.dt_map.specs.Limits.{IsInRange}
 use Rattle.dt_type.specs.declared.datatype.Seen.{Seen}
 use Rattle.dt_type.specs.declared.limits.TheConstants.{DEPTH_MAX, WEIGHT_MAX}
-use Rattle.dt_type.specs.Arguments.{takes_arguments}
+use Rattle.dt_form.specs.Arguments.{takes_arguments}
 use Rattle.dt_type.specs.Datatype.{typemap_of, form_of, weight_of, depth_of}
-use Rattle.dt_type.specs.Form.{result_of, olds_of}
+use Rattle.dt_type.specs.Form.{result_of}
+use Rattle.dt_form.specs.Form.{olds_of}
 
 -- a datatype is what its form gives, and within the limits
 pub record IsProper (t : Seen) : Type 0 where

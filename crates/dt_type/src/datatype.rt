@@ -2,19 +2,20 @@
 ghost use Rattle.std.specs.Prelude.{◌≡◌, ◌≤◌, ◌<◌, ◌^◌, nat_abs, IsTrue, IfOk};
 ghost use Rattle.std.specs.List.{AllByRecursion};
 ghost use Rattle.dt_map.specs.Bounds.{bounds_of, extent_of};
-ghost use Rattle.dt_type.specs.Arguments.{takes_arguments};
+ghost use Rattle.dt_form.specs.Arguments.{takes_arguments};
 ghost use Rattle.dt_type.specs.Basic as basic;
 ghost use Rattle.dt_type.specs.Datatype.{typemap_of, entries_of, marks_of, form_of, weight_of, depth_of};
 ghost use Rattle.dt_map.specs.Limits.{IsInRange};
-ghost use Rattle.dt_type.specs.Form.{result_of, map_by, items_of};
+ghost use Rattle.dt_type.specs.Form.{result_of, map_by};
+ghost use Rattle.dt_form.specs.Form.{items_of};
 ghost use Rattle.dt_type.specs.Shape.{placed_by, olds_of as placed_olds};
 ghost use Rattle.dt_type.specs.ShapeFor.{IsShapeFor};
 ghost use Rattle.dt_type.specs.Sound.{Sound};
 ghost use Rattle.dt_type.specs.Whole.{IsWhole};
 
-use crate::form::{Form, FormOf};
 use crate::limits::{DEPTH_MAX, WEIGHT_MAX};
 use crate::shape::{Shape, ShapeOf};
+use dt_form::{ContentsOf, FormOf, PartOf};
 use dt_kinds::{Kind, NoMemory};
 use dt_map::{Bounds, Entry, Marks};
 use sqlite_items::{Boxed, Items};
@@ -38,6 +39,15 @@ pub struct Seen {
 pub struct Datatype {
     node: Rc<Node>,
 }
+
+/// The constructor and the arguments of a datatype.
+pub type Form = FormOf<Datatype>;
+
+/// A part of a struct.
+pub type Part = PartOf<Datatype>;
+
+/// The arguments of a datatype, in three lists.
+pub type Contents = ContentsOf<Datatype>;
 
 #[cycle(datatype)]
 #[derive(Drop)]
@@ -134,7 +144,7 @@ impl Datatype {
     pub fn is_basic(&self) -> bool
         ensures { result ≡ basic.is_basic self.now }
     {
-        matches!(self.form(), FormOf::Named(_))
+        self.form().is_named()
     }
 
     /// The marks, where the typemap has them.

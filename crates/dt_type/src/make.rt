@@ -9,10 +9,9 @@ ghost use Rattle.dt_type.specs.Measure.{IsMeasure, IsRefusal};
 ghost use Rattle.dt_type.specs.Shape.{placed_by};
 ghost use Rattle.dt_type.specs.ShapeFor.{IsShapeFor};
 
-use crate::datatype::{Datatype, Node};
+use crate::datatype::{Datatype, Form, Node};
 use crate::digest::of_covered;
 use crate::fault::CtorFault;
-use crate::form::Form;
 use crate::limits::{DEPTH_MAX, WEIGHT_MAX};
 use crate::measures::{depth_by, weight_by};
 use crate::shape::{Cover, Shape};

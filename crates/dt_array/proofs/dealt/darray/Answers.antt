@@ -2,9 +2,9 @@ use mir.Syntax.{w32}
 use Rattle.std.proofs.Common.{ℤ, nat_abs, IsTrue, subst, rules}
 use Rattle.std.proofs.lemmas.Int.{to_z-of_z}
 use Rattle.dt_type.specs.declared.datatype.Seen.{Seen}
-use Rattle.dt_type.specs.declared.form.FormOf.{FormOf}
-use Rattle.dt_type.specs.declared.form.FormOf.TheVariants.{Darray}
-use Rattle.dt_type.specs.Arguments.{takes_arguments}
+use Rattle.dt_form.specs.declared.form.FormOf.{FormOf}
+use Rattle.dt_form.specs.declared.form.FormOf.TheVariants.{Darray}
+use Rattle.dt_form.specs.Arguments.{takes_arguments}
 use Rattle.dt_type.specs.Arrays.{darray_axes}
 use Rattle.dt_ctor.proofs.Answers.{again}
 use Rattle.dt_array.specs.Array.{IsArrayOf}

@@ -1,7 +1,7 @@
 use Rattle.std.proofs.Common.{refl, sym, subst}
 use Rattle.dt_type.specs.declared.datatype.Seen.{Seen}
 use Rattle.dt_type.specs.declared.fault.CtorFault.TheVariants.{BadArgument, Overflow}
-use Rattle.dt_type.specs.declared.form.FormOf.TheVariants.{Dup}
+use Rattle.dt_form.specs.declared.form.FormOf.TheVariants.{Dup}
 use Rattle.dt_type.specs.Datatype.{typemap_of}
 use Rattle.dt_map.specs.Limits.{IsInRange}
 use Rattle.dt_ctor.proofs.Answers.{again, never}

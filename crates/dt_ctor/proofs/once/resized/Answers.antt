@@ -3,7 +3,7 @@ use mir.Val.{to_z, of_z}
 use Rattle.std.proofs.Common.{refl, arith}
 use Rattle.std.proofs.lemmas.Int.{ints, to_z-of_z}
 use Rattle.dt_type.specs.declared.fault.CtorFault.TheVariants.{BadArgument}
-use Rattle.dt_type.specs.declared.form.FormOf.TheVariants.{Resized}
+use Rattle.dt_form.specs.declared.form.FormOf.TheVariants.{Resized}
 use Rattle.dt_ctor.proofs.Answers.{again, never}
 use Rattle.dt_ctor.proofs.OneCopy.{with_marks}
 use Rattle.dt_ctor.proofs.once.resized.Goals as goal
