@@ -26,7 +26,7 @@ use Rattle.dt_type.specs.Datatype.{typemap_of, entries_of, IsInRange}
 use Rattle.dt_type.specs.Form.{map_by, array}
 use Rattle.dt_type.specs.Listing.{entries_at}
 use Rattle.dt_type.specs.Shape.{covered, placed_by, grid_offsets}
-use Rattle.dt_ctor.specs.Answer.{IsCause}
+use Rattle.dt_type.specs.Answer.{IsCause}
 use Rattle.dt_array.specs.declared.indices.Indices.{Indices}
 use Rattle.dt_array.specs.declared.nest.Nest.{Nest}
 use Rattle.dt_array.specs.Array.{IsArrayOf}

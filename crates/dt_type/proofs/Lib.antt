@@ -1,3 +1,4 @@
+pub mod Answers
 pub mod CopyAt
 pub mod Counted
 pub mod DigestBounds
@@ -16,5 +17,6 @@ pub mod Reading
 pub mod Refusals
 pub mod Rows
 pub mod Shown
+pub mod Times
 pub mod TrueSpans
 pub mod TurnSpans
