@@ -8,9 +8,8 @@ use Rattle.std.proofs.lemmas.Nat.{div-add-mod'}
 use Rattle.dt_offsets.specs.Offsets.{below}
 use Rattle.dt_form.specs.declared.form.Dist.TheVariants.{Whole}
 use Rattle.dt_form.specs.declared.form.DistDim.{DistDim}
-use Rattle.dt_type.specs.Arrays.{Axis, dealt, darg_from}
+use Rattle.dt_type.specs.Arrays.{Axis, dealt, darg_from, axis_at}
 use Rattle.dt_array.specs.declared.indices.Indices.{Indices}
-use Rattle.dt_array.specs.Dealt.{axis_at}
 use Rattle.dt_array.specs.Indices.{index_at, axis_of, AreInside}
 use Rattle.dt_array.proofs.Lists.{same_below, all_below, map-same}
 use Rattle.dt_array.proofs.Rounds.{in_rounds, held_at}

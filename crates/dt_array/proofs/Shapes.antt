@@ -21,14 +21,16 @@ use Rattle.dt_type.specs.declared.shape.ShapeOf.TheVariants.{Grid}
 use Rattle.dt_offsets.specs.declared.turns.Turns.{Turns}
 use Rattle.dt_form.specs.Arguments.{product}
 use Rattle.dt_type.specs.Arrays.{chosen_places}
-use Rattle.dt_type.specs.Conditions.{AreShapeTurns, AreNested, IsShapeFor}
+use Rattle.dt_type.specs.Conditions.{AreShapeTurns, AreNested}
+use Rattle.dt_type.specs.ShapeFor.{IsShapeFor}
 use Rattle.dt_type.specs.Datatype.{typemap_of, entries_of}
 use Rattle.dt_map.specs.Limits.{IsInRange}
 use Rattle.dt_type.specs.Form.{map_by, array}
 use Rattle.dt_type.specs.Listing.{entries_at}
-use Rattle.dt_type.specs.Shape.{covered, placed_by}
+use Rattle.dt_type.specs.Cover.{covered}
+use Rattle.dt_type.specs.Shape.{placed_by}
 use Rattle.dt_offsets.specs.Offsets.{grid_offsets}
-use Rattle.dt_ctor.specs.Answer.{IsCause}
+use Rattle.dt_type.specs.Answer.{IsCause}
 use Rattle.dt_array.specs.declared.indices.Indices.{Indices}
 use Rattle.dt_array.specs.declared.nest.Nest.{Nest}
 use Rattle.dt_array.specs.Array.{IsArrayOf}

@@ -60,9 +60,7 @@ fn around(alloc: Global, dims: &[Indices], extent: i128) -> Result<Nest, CtorFau
     let mut span = extent;
     for dim in dims {
         let unit = narrow(span)?;
-        let Ok(()) = turns.push(turns_of(dim, unit)) else {
-            return Err(CtorFault::NoMemory);
-        };
+        turns.push(turns_of(dim, unit))?;
         span = units(dim.full, unit);
     }
     turns.reverse();

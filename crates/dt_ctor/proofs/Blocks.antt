@@ -17,7 +17,7 @@ use Rattle.dt_type.specs.Conditions.{AreShapeTurns}
 use Rattle.dt_type.specs.Constructors.{contiguous_offsets, hvector_offsets, vector_offsets}
 use Rattle.dt_type.specs.Datatype.{typemap_of}
 use Rattle.dt_ctor.specs.Places.{Places}
-use Rattle.dt_ctor.proofs.Products.{sum_times, product_times}
+use Rattle.dt_type.proofs.Times.{sum_times, product_times}
 
 abbrev turns : ℕ → ℕ → ℤ → ℤ → Turns
 turns count block jump step = record { first = pos 0; count = count; block = block; jump = jump; step = step }

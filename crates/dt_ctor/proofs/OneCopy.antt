@@ -15,7 +15,8 @@ use Rattle.dt_type.specs.declared.shape.ShapeOf.{ShapeOf}
 use Rattle.dt_type.specs.declared.shape.ShapeOf.TheVariants.{Grid}
 use Rattle.dt_offsets.specs.declared.turns.Turns.{Turns}
 use Rattle.dt_type.specs.Datatype.{typemap_of, entries_of}
-use Rattle.dt_type.specs.Shape.{covered, placed_by}
+use Rattle.dt_type.specs.Cover.{covered}
+use Rattle.dt_type.specs.Shape.{placed_by}
 use Rattle.dt_ctor.specs.Places.{Places}
 
 shift_none : (es : List Entry) → shift (pos 0) es ≡ es

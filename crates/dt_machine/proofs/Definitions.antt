@@ -5,7 +5,7 @@ use Rattle.std.proofs.lemmas.Int.{to_z-of_z}
 use Rattle.std.proofs.lemmas.List.{take_more}
 use Rattle.std.specs.List.{list_any}
 use Rattle.std.specs.Option.{option_map, option_and_then, is_none}
-use Rattle.dt_ctor.specs.Answer.{IsCause, IsAnswer}
+use Rattle.dt_type.specs.Answer.{IsCause, IsAnswer}
 use Rattle.dt_kinds.specs.Name.{is_left_out}
 use Rattle.dt_reply.specs.declared.refusal.Refusal.TheVariants as refusal
 use Rattle.dt_reply.specs.Reply.{Done}

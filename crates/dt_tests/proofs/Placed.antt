@@ -16,10 +16,12 @@ use Rattle.dt_form.specs.declared.form.SubDim.{SubDim}
 use Rattle.dt_type.specs.declared.shape.Cover.TheVariants.{Erase}
 use Rattle.dt_type.specs.declared.shape.ShapeOf.TheVariants.{Grid}
 use Rattle.dt_offsets.specs.declared.turns.Turns.{Turns}
-use Rattle.dt_type.specs.Conditions.{AreShapeTurns, HasNumbers, IsShapeFor}
+use Rattle.dt_type.specs.Conditions.{AreShapeTurns, HasNumbers}
+use Rattle.dt_type.specs.ShapeFor.{IsShapeFor}
 use Rattle.dt_type.specs.Form.{map_by, result_of}
 use Rattle.dt_offsets.specs.Offsets.{grid_offsets}
-use Rattle.dt_type.specs.Shape.{placed_by, covered}
+use Rattle.dt_type.specs.Shape.{placed_by}
+use Rattle.dt_type.specs.Cover.{covered}
 
 abbrev byte : Seen
 byte = result_of (Named Byte)

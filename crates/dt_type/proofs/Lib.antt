@@ -1,3 +1,4 @@
+pub mod Answers
 pub mod CopyAt
 pub mod Counted
 pub mod Digests
@@ -8,6 +9,6 @@ pub mod Listings
 pub mod Lookups
 pub mod OneEntry
 pub mod Reading
-pub mod Refusals
 pub mod Shown
 pub mod ShapeNumbers
+pub mod Times

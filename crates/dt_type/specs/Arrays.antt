@@ -55,10 +55,11 @@ dealt dist gsize darg psize r = filter (λ g. (g / darg) % psize == r) (below gs
 abbrev pub coordinate : ℕ → ℕ → List ℕ → ℕ
 coordinate rank psize later = (rank / product later) % psize
 
+-- a dimension, and the indices that the process with coordinate r holds
+abbrev pub axis_at : ℕ → DistDim → Axis
+axis_at r d = record { full = nat_abs d.gsize; chosen = dealt d.dist (nat_abs d.gsize) (darg_from d.darg d) (nat_abs d.psize) r }
+
 -- MPI_Type_create_darray (MPI 4.1, section 5.1.4): the indices that the rank holds
 abbrev pub darray_axes : ℕ → List DistDim → List Axis
 darray_axes rank [] = []
-darray_axes rank (d ∷ dims) =
-    let r = coordinate rank (nat_abs d.psize) (map (λ e. nat_abs e.psize) dims) in
-    let a : Axis = record { full = nat_abs d.gsize; chosen = dealt d.dist (nat_abs d.gsize) (darg_from d.darg d) (nat_abs d.psize) r } in
-    a ∷ darray_axes rank dims
+darray_axes rank (d ∷ dims) = axis_at (coordinate rank (nat_abs d.psize) (map (λ e. nat_abs e.psize) dims)) d ∷ darray_axes rank dims

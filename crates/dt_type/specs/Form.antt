@@ -12,8 +12,9 @@ use Rattle.dt_form.specs.declared.form.PartOf.{PartOf}
 use Rattle.dt_type.specs.Arrays.{Axis, chosen_places, subarray_axis, darray_axes}
 use Rattle.dt_form.specs.Arguments.{product}
 use Rattle.dt_form.specs.Form.{olds_of, items_of, levels_of}
-use Rattle.dt_type.specs.Constructors.{contiguous_offsets, block_offsets, vector_offsets, hvector_offsets, indexed_offsets, hindexed_offsets, indexed_block_offsets, hindexed_block_offsets}
+use Rattle.dt_type.specs.Constructors.{contiguous_offsets, vector_offsets, hvector_offsets, indexed_offsets, hindexed_offsets, indexed_block_offsets, hindexed_block_offsets}
 use Rattle.dt_type.specs.Datatype.{typemap_of, weight_of, depth_of}
+use Rattle.dt_offsets.specs.Offsets.{row_offsets}
 
 -- copies of an old type at offsets that its extent tells
 abbrev pub spread : (ℤ → List ℤ) → Seen → Marked
@@ -22,7 +23,7 @@ spread offsets old = copies_at (offsets (extent_of (typemap_of old))) (typemap_o
 -- the copies of a part of a struct, each with its place
 abbrev pub part_members : PartOf Seen → List (ℤ × Marked)
 part_members p =
-    map (λ x. (x, typemap_of p.old)) (block_offsets p.disp (nat_abs p.len) (extent_of (typemap_of p.old)))
+    map (λ x. (x, typemap_of p.old)) (row_offsets p.disp (nat_abs p.len) (extent_of (typemap_of p.old)))
 
 -- the chosen elements of an array of old types. Marks of the old type are dropped; the new ones are around the full array
 abbrev pub array : Order → List Axis → Seen → Marked

@@ -31,9 +31,6 @@ impl Datatype {
         let Some(old) = old_at(form, k) else {
             return Err(ChildFault::NoSuchChild);
         };
-        match old.share() {
-            Ok(child) => Ok(child),
-            Err(_) => Err(ChildFault::NoMemory),
-        }
+        Ok(old.share()?)
     }
 }

@@ -53,7 +53,7 @@ fn types(alloc: Global, form: &Form) -> Result<Items<Datatype>, NoMemory>
 }
 
 /// All three lists of a form.
-fn listed(alloc: Global, form: &Form) -> Result<Contents, NoMemory>
+fn contents_by(alloc: Global, form: &Form) -> Result<Contents, NoMemory>
     requires { items_of form.now < 65536 }
     ensures { IfOk result (λ contents. contents ≡ contents_of form.now) }
 {
@@ -74,9 +74,6 @@ impl Datatype {
         if form.is_named() {
             return Err(ContentsFault::Named);
         }
-        match listed(alloc, form) {
-            Ok(contents) => Ok(contents),
-            Err(_) => Err(ContentsFault::NoMemory),
-        }
+        Ok(contents_by(alloc, form)?)
     }
 }

@@ -104,20 +104,18 @@ impl Datatype {
         requires { Sound node }
         ensures { IfOk result (λ t. t ≡ result_of node.form) }
     {
-        match Rc::new(alloc, node) {
-            Ok(node) => Ok(Datatype { node }),
-            Err(_) => Err(NoMemory),
-        }
+        Ok(Datatype {
+            node: Rc::new(alloc, node)?,
+        })
     }
 
     /// The same datatype again. It takes no memory, but an `Rc` may refuse one more owner.
     pub fn share(&self) -> Result<Datatype, NoMemory>
         ensures { IfOk result (λ t. t ≡ self.now) }
     {
-        match self.node.clone() {
-            Ok(node) => Ok(Datatype { node }),
-            Err(_) => Err(NoMemory),
-        }
+        Ok(Datatype {
+            node: self.node.clone()?,
+        })
     }
 
     /// Sizes and bounds of the typemap (MPI 4.1, sections 5.1.5 to 5.1.8).
