@@ -94,7 +94,7 @@ fn copies_with_elements(ty: &Datatype, count: u32) -> u32
 }
 
 /// So many bytes there is room for at first.
-const FIRST_ROOM: u128 = 1_048_576;
+const FIRST_ROOM: u128 = 1 << 20;
 
 /// The room that is taken at first for the packed bytes of an operation: all of it, up to a limit.
 fn first_room(ty: &Datatype, rep: Rep, count: u32) -> usize {

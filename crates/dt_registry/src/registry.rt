@@ -44,7 +44,6 @@ impl Model for Registry {
 
     ghost view = { λ r. record { made = r.made; slots = r.slots.slots } };
 
-
     ghost invariant = { λ r. HoldsEarlier r.made r.slots.slots };
 }
 
