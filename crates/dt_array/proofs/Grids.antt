@@ -114,10 +114,14 @@ length-darray : (rank : ℕ) (dims : List DistDim) → length (darray_axes rank 
 length-darray rank [] = refl
 length-darray rank (d ∷ dims) = let rest = length-darray rank dims in omega arith
 
+as_many : (made : List Indices) (rank : ℕ) (dims : List DistDim) → AreChosen made (darray_axes rank dims) → length made ≡ length dims
+as_many made rank dims part = sym (length-map made axis_of) ∙ ap length part.chosen ∙ length-darray rank dims
+
 pub darray_says : (size rank : ℤ) (dims : List DistDim) (order : Order) (old : Seen) (made : List Indices) → AreChosen made (darray_axes (nat_abs rank) dims)
     → IsTrue (takes_arguments (Darray size rank dims order old)) → IsArrayOf order made old (Darray size rank dims order old)
 darray_says size rank dims order old made part taken = record {
-  items = sym (length-map made axis_of) ∙ ap length part.chosen ∙ length-darray (nat_abs rank) dims;
+  items = as_many made (nat_abs rank) dims part;
+  levels = as_many made (nat_abs rank) dims part;
   olds = refl;
   typemap = ap (λ axes. array order axes old) part.chosen;
   arguments = taken;

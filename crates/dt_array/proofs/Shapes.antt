@@ -78,10 +78,14 @@ module _ (order : Order) (dims : List Indices) (old shared : Seen) (form : FormO
     numbers =
         subst (λ (ts : List Turns). AllByRecursion AreShapeTurns ts × AreNested ts) (sym h.turns)
         (have_numbers read (outermost_first order dims) (outermost_inside order dims inside) (subst FitsDisp (sym (outermost_span read order dims)) h.fits));
-    items = ap length h.turns ∙ length-inward read (outermost_first order dims) ∙ length-outermost order dims ∙ says.items;
+    items = as_many ∙ says.items;
+    levels = let turns = as_many in let levels = says.levels in omega arith;
     olds = ap (λ (t : Seen). t ∷ []) same ∙ says.olds;
     arguments = says.arguments;
   }
+    where
+      as_many : length nest.turns ≡ length dims
+      as_many = ap length h.turns ∙ length-inward read (outermost_first order dims) ∙ length-outermost order dims
 
   pub places : (nest : Nest) → shared ≡ old → IsNest order read dims nest
       → covered (Erase (record { lb = pos 0; ub = to_z w64 (of_z w64 nest.span) })) (placed_by (Grid nest.turns shared)) ≡ map_by form

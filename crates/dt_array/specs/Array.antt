@@ -6,11 +6,12 @@ use Rattle.dt_form.specs.declared.form.FormOf.{FormOf}
 use Rattle.dt_form.specs.declared.form.Order.{Order}
 use Rattle.dt_form.specs.Arguments.{takes_arguments}
 use Rattle.dt_type.specs.Form.{map_by, array}
-use Rattle.dt_form.specs.Form.{items_of, olds_of}
+use Rattle.dt_form.specs.Form.{items_of, levels_of, olds_of}
 
 -- a form that says: these indices of an array, in this order
 pub record IsArrayOf (order : Order) (dims : List Indices) (old : Seen) (form : FormOf Seen) : Type 0 where
   pub items : length dims ≡ items_of form
+  pub levels : length dims ≡ levels_of form
   pub olds : old ∷ [] ≡ olds_of form
   pub typemap : array order (map axis_of dims) old ≡ map_by form
   pub arguments : IsTrue (takes_arguments form)

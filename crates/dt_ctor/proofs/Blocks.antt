@@ -51,6 +51,7 @@ one_dimension : (t : Turns) (count block jump : ℤ) (old : Seen) → AreShapeTu
 one_dimension t count block jump old numbers e = record {
   numbers = ((numbers, tt), tt);
   items = refl;
+  levels = omega arith;
   olds = refl;
   typemap = ap (λ xs. copies_at xs (typemap_of old)) (each_alone (turn_offsets t) ∙ e);
 }
@@ -77,6 +78,7 @@ pub as_contiguous : (s : ShapeOf Seen) (count : ℤ) (old : Seen) → Places s (
 as_contiguous s count old h = record {
   numbers = h.numbers;
   items = h.items;
+  levels = h.levels;
   olds = h.olds;
   typemap = h.typemap ∙ ap (λ xs. copies_at xs (typemap_of old)) (in_a_row (nat_abs count) (extent_of (typemap_of old)));
 }
@@ -86,6 +88,7 @@ pub as_vector : (s : ShapeOf Seen) (count block stride jump : ℤ) (old : Seen) 
 as_vector s count block stride jump old e h = record {
   numbers = h.numbers;
   items = h.items;
+  levels = h.levels;
   olds = h.olds;
   typemap =
       h.typemap

@@ -1,6 +1,6 @@
 -- One copy at 0 is the typemap itself.
 use Rattle.std.specs.Prelude.{◌≡◌, Option, Some, None, ℤ, pos, ◌+ℤ◌, List, [], ◌∷◌}
-use Rattle.std.proofs.Common.{refl, sym, ap, subst, ◌∙◌}
+use Rattle.std.proofs.Common.{refl, sym, ap, subst, ◌∙◌, arith}
 use Rattle.std.proofs.Math.IntN.{+ℤ_idr}
 use Rattle.std.proofs.lemmas.List.{append-nil}
 use Rattle.dt_map.specs.declared.entry.Entry.{Entry}
@@ -36,7 +36,7 @@ one_copy m =
 
 pub placed_once : (turns : List Turns) (old shared : Seen) → turns ≡ [] → shared ≡ old → Places (Grid turns shared) (Dup old)
 placed_once turns old shared none same =
-    let here : Places (Grid [] old) (Dup old) = record { numbers = (tt, tt); items = refl; olds = refl; typemap = one_copy (typemap_of old) } in
+    let here : Places (Grid [] old) (Dup old) = record { numbers = (tt, tt); items = refl; levels = omega arith; olds = refl; typemap = one_copy (typemap_of old) } in
     subst (λ ts. Places (Grid ts shared) (Dup old)) (sym none) (subst (λ (t : Seen). Places (Grid [] t) (Dup old)) (sym same) here)
 
 abbrev marked : List Entry → ℤ → ℤ → Marked

@@ -1,7 +1,7 @@
 -- Rows of copies place what the lists of blocks and of parts say.
 use Rattle.std.specs.Prelude.{◌≡◌, ◌≤◌, ℕ, ℤ, pos, ◌*ℤ◌, nat_abs, List, [], ◌∷◌, ◌++◌, map, length, take}
 use Rattle.std.specs.List.{AllByRecursion, flat_map}
-use Rattle.std.proofs.Common.{refl, sym, ap, subst, ◌∙◌}
+use Rattle.std.proofs.Common.{refl, sym, ap, subst, ◌∙◌, arith}
 use Rattle.std.proofs.lemmas.List.{length-map, take_all}
 use Rattle.std.proofs.lemmas.List.Folds.{flat_map-map}
 use Rattle.dt_map.specs.Bounds.{extent_of}
@@ -59,6 +59,7 @@ module _ {B : Type 0} (row : B → Spot) (offsets : B → List ℤ) (same : (b :
   rows_place old f items olds typemap numbers = record {
     numbers = numbers;
     items = length-map blocks row ∙ sym items;
+    levels = omega arith;
     olds = sym olds;
     typemap = ap (λ xs. copies_at xs (typemap_of old)) offsets_are ∙ sym typemap;
   }
@@ -104,6 +105,7 @@ parts_place : (parts : List (PartOf Seen)) → AllByRecursion IsShapePart (map p
 parts_place parts numbers = record {
   numbers = numbers;
   items = length-map parts part_row;
+  levels = omega arith;
   olds = map-map (λ (p : ShapePartOf Seen). p.old) part_row parts;
   typemap = ap place (flat_map-map shape.part_members part_row parts);
 }

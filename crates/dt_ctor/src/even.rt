@@ -1,5 +1,5 @@
 //! Constructors whose copies are in blocks of one length, at one distance.
-ghost use Rattle.std.specs.Prelude.{◌≡◌, ◌≤◌, IfOk};
+ghost use Rattle.std.specs.Prelude.{◌≡◌, ◌≤◌, ◌^◌, IfOk};
 ghost use Rattle.dt_type.specs.Answer.{IsAnswer};
 ghost use Rattle.dt_ctor.specs.Places.{Places};
 ghost use Rattle.dt_offsets.specs.Near.{IsFactor};
@@ -7,7 +7,7 @@ ghost use Rattle.dt_type.specs.Conditions.{AreShapeTurns};
 ghost use Rattle.dt_type.specs.Constructors.{hvector_offsets};
 ghost use Rattle.dt_offsets.specs.Offsets.{turn_offsets};
 
-use crate::built::{built, extent_of, extents};
+use crate::built::{built, extents};
 use dt_kinds::NoMemory;
 use dt_type::{CtorFault, Datatype, FormOf, Shape, ShapeOf, Turns};
 use sqlite_items::Items;
@@ -16,8 +16,8 @@ use std::alloc::Global;
 /// Turns in `count` blocks of `block`, one `jump` apart, one `step` apart within a block.
 #[tactic(auto, using(crate::proofs::Blocks::in_blocks))]
 fn turns_of(count: u32, block: u32, jump: i128, step: i128) -> Turns
-    requires count { count ≤ 2147483648 }
-    requires block { block ≤ 2147483648 }
+    requires count { count ≤ 2 ^ 31 }
+    requires block { block ≤ 2 ^ 31 }
     requires jump { IsFactor jump }
     requires step { IsFactor step }
     ensures offsets { turn_offsets result ≡ hvector_offsets count block jump step }
@@ -47,7 +47,7 @@ fn blocks_of(
         count.unsigned_abs(),
         block.unsigned_abs(),
         jump,
-        extent_of(old),
+        old.extent(),
     );
     Ok(ShapeOf::Grid {
         turns: Items::from_slice(alloc, &[each])?,
@@ -88,7 +88,7 @@ pub fn vector(
     if count < 0 || block < 0 {
         return Err(CtorFault::BadArgument);
     }
-    let jump = extents(stride, extent_of(old));
+    let jump = extents(stride, old.extent());
     let shape = blocks_of(alloc, count, block, jump, old)?;
     let form = FormOf::Vector {
         count,

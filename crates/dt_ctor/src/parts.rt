@@ -7,7 +7,7 @@ ghost use Rattle.dt_ctor.specs.Rows.{part_row};
 ghost use Rattle.dt_form.specs.Arguments.{is_count};
 ghost use Rattle.dt_type.specs.Conditions.{IsShapePart};
 
-use crate::built::{built, extent_of};
+use crate::built::built;
 use dt_kinds::NoMemory;
 use dt_type::{
     CtorFault, Datatype, Form, FormOf, Part, PartOf, Shape, ShapeOf, ShapePart, ShapePartOf,
@@ -29,7 +29,7 @@ fn row_of(part: &Part) -> Result<ShapePart, NoMemory>
     Ok(ShapePartOf {
         first: i128::from(part.disp),
         copies: part.len.unsigned_abs(),
-        step: extent_of(&part.old),
+        step: part.old.extent(),
         old: part.old.share()?,
     })
 }

@@ -7,7 +7,7 @@ ghost use Rattle.dt_ctor.specs.Rows.{int_row, addr_row};
 ghost use Rattle.dt_form.specs.Arguments.{is_count};
 ghost use Rattle.dt_offsets.specs.Near.{IsSpot};
 
-use crate::built::{built, extent_of, extents};
+use crate::built::{built, extents};
 use dt_kinds::NoMemory;
 use dt_type::{AddrBlock, CtorFault, Datatype, FormOf, IntBlock, Shape, ShapeOf, Spot};
 use sqlite_items::Items;
@@ -67,7 +67,7 @@ fn are_addr_blocks(blocks: &[AddrBlock]) -> bool
 fn int_blocks_of(alloc: Global, blocks: &[IntBlock], old: &Datatype) -> Result<Shape, NoMemory>
     ensures { IfOk result (λ s. Places s (FormOf.Indexed blocks.now old.now)) }
 {
-    let extent = extent_of(old);
+    let extent = old.extent();
     let mut spots = Items::new(alloc);
     for block in blocks {
         add_row(&mut spots, int_row_of(extent, block.len, block.disp))?;
@@ -82,7 +82,7 @@ fn int_blocks_of(alloc: Global, blocks: &[IntBlock], old: &Datatype) -> Result<S
 fn addr_blocks_of(alloc: Global, blocks: &[AddrBlock], old: &Datatype) -> Result<Shape, NoMemory>
     ensures { IfOk result (λ s. Places s (FormOf.Hindexed blocks.now old.now)) }
 {
-    let extent = extent_of(old);
+    let extent = old.extent();
     let mut spots = Items::new(alloc);
     for block in blocks {
         add_row(&mut spots, addr_row_of(extent, block.len, block.disp))?;
@@ -97,7 +97,7 @@ fn addr_blocks_of(alloc: Global, blocks: &[AddrBlock], old: &Datatype) -> Result
 fn int_disps_of(alloc: Global, block: i32, disps: &[i32], old: &Datatype) -> Result<Shape, NoMemory>
     ensures { IfOk result (λ s. Places s (FormOf.IndexedBlock block disps.now old.now)) }
 {
-    let extent = extent_of(old);
+    let extent = old.extent();
     let mut spots = Items::new(alloc);
     for disp in disps {
         add_row(&mut spots, int_row_of(extent, block, *disp))?;
@@ -117,7 +117,7 @@ fn addr_disps_of(
 ) -> Result<Shape, NoMemory>
     ensures { IfOk result (λ s. Places s (FormOf.HindexedBlock block disps.now old.now)) }
 {
-    let extent = extent_of(old);
+    let extent = old.extent();
     let mut spots = Items::new(alloc);
     for disp in disps {
         add_row(&mut spots, addr_row_of(extent, block, *disp))?;

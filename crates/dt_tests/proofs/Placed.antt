@@ -41,6 +41,7 @@ pub ragged_is_for : (turns : List Turns) (dims : List DistDim) (a b old : Seen)
 ragged_is_for turns dims a b old e f g h i = rw (e, f, g, h) (record {
   numbers = ((record { first = omega arith; jump = omega arith; step = omega arith; least = omega arith; most = omega arith; count = omega arith }, tt), tt);
   items = refl;
+  levels = omega arith;
   olds = refl;
   arguments = refl;
 })
@@ -65,7 +66,7 @@ falling_marks = record { lb = pos 0; ub = negsuc 3 }
 
 pub falling_is_for : (turns : List Turns) (a b old : Seen) → turns ≡ [] → a ≡ old → b ≡ old
     → IsShapeFor (Grid turns a) (Resized (pos 0) (negsuc 3) b)
-falling_is_for turns a b old e f g = rw (e, f, g) (record { numbers = (tt, tt); items = refl; olds = refl; arguments = refl })
+falling_is_for turns a b old e f g = rw (e, f, g) (record { numbers = (tt, tt); items = refl; levels = omega arith; olds = refl; arguments = refl })
 
 falling_whole : covered (Erase falling_marks) (placed_by (Grid [] int)) ≡ map_by (Resized (pos 0) (negsuc 3) int)
 unfolding out-Seen out roll-Seen roll
@@ -114,7 +115,7 @@ backward_numbers =
 pub backward_is_for : (turns : List Turns) (dims : List SubDim) (a b old : Seen)
     → turns ≡ backward_turns → dims ≡ backward_dims → a ≡ old → b ≡ old → old ≡ falling
     → IsShapeFor (Grid turns a) (Subarray dims C b)
-backward_is_for turns dims a b old e f g h i = rw (e, f, g, h, i) (record { numbers = backward_numbers; items = refl; olds = refl; arguments = refl })
+backward_is_for turns dims a b old e f g h i = rw (e, f, g, h, i) (record { numbers = backward_numbers; items = refl; levels = omega arith; olds = refl; arguments = refl })
 
 backward_whole : covered (Erase backward_marks) (placed_by (Grid backward_turns falling)) ≡ map_by (Subarray backward_dims C falling)
 unfolding out-Seen out roll-Seen roll

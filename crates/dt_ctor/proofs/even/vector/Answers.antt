@@ -13,7 +13,7 @@ pub built-requires-clause-places : goal.built-requires-clause-places
 built-requires-clause-places c =
     let old = c.in_ok-share.ensures in
     let stride = to_z w32 (of_z w32 c.args.stride) in
-    let wide = to_z-of_z w128 c.extent_of.result (record { sfits = c.extent_of.type_inv }) ∙ c.extent_of.ensures.value in
+    let wide = to_z-of_z w128 c.extent.result (record { sfits = c.extent.type_inv }) ∙ c.extent.ensures.value in
     let back = to_z-of_z w128 c.extents-jump.result (record { sfits = c.extents-jump.type_inv }) in
     let jump : to_z w128 (of_z w128 c.extents-jump.result) ≡ stride *ℤ extent_of (typemap_of c.args.old.now) =
     back ∙ c.extents-jump.ensures.value ∙ ap (λ x. stride *ℤ x) wide in
