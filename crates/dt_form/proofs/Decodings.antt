@@ -1,7 +1,6 @@
 -- What contents list is what they are made of.
 use Rattle.std.specs.Prelude.{◌≡◌, ℕ, suc, ℤ, pos, negsuc, Option, Some, None, Bool, true, false, ◌&&◌, IsTrue, List, [], ◌∷◌, ◌++◌, map, length, take, drop}
 use Rattle.std.specs.List.{list_all}
-use Rattle.std.specs.Option.{option_map}
 use Rattle.std.proofs.Common.{refl, sym, ap, subst, ◌∙◌, append_assoc, arith}
 use Rattle.std.proofs.lemmas.Bool.{false≢true}
 use Rattle.std.proofs.lemmas.List.{length-map, take_at, drop_at, take_all}

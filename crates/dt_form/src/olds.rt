@@ -1,5 +1,5 @@
 //! The old types of a form, one by one.
-ghost use Rattle.std.specs.Prelude.{◌≡◌, [], ◌∷◌, map, length, slice_get};
+ghost use Rattle.std.specs.Prelude.{◌≡◌, ◌<◌, [], ◌∷◌, map, length, slice_get};
 ghost use Rattle.std.specs.Option.{option_copied};
 ghost use Rattle.dt_form.specs.Form.{olds_of};
 
@@ -53,5 +53,13 @@ impl<T> FormOf<T> {
             | FormOf::Darray { old, .. }
             | FormOf::Resized { old, .. } => only_old(old, k),
         }
+    }
+
+    /// Old type k, which there is.
+    pub fn old_type(&self, k: usize) -> &T
+        requires { k < length (olds_of self.now) }
+        ensures { slice_get (olds_of self.now) k ≡ Some result.now }
+    {
+        self.old_at(k).unwrap()
     }
 }

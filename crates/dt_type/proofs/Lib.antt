@@ -7,6 +7,7 @@ pub mod Examples
 pub mod KnownDigest
 pub mod Listings
 pub mod Lookups
+pub mod Olds
 pub mod OneEntry
 pub mod Reading
 pub mod Shown

@@ -1,56 +1,26 @@
 //! The arguments that made a datatype, in three lists (MPI 4.1, section 5.1.13).
-ghost use Rattle.std.specs.Prelude.{◌≡◌, ◌<◌, [], ◌∷◌, map, IfOk};
+ghost use Rattle.std.specs.Prelude.{◌≡◌, ◌<◌, IfOk};
 ghost use Rattle.dt_form.specs.Contents.{contents_of};
 ghost use Rattle.dt_form.specs.Form.{items_of, olds_of};
 ghost use Rattle.dt_type.specs.Contents.{AreContents};
 
-use crate::datatype::{Contents, Datatype, Form, Part};
+use crate::datatype::{Contents, Datatype, Form};
 use crate::fault::ContentsFault;
 use crate::limits::WEIGHT_MAX;
-use dt_form::{ContentsOf, FormOf};
+use dt_form::ContentsOf;
 use dt_kinds::NoMemory;
 use sqlite_items::Items;
 use std::alloc::Global;
-
-/// The one old datatype.
-fn only_type(alloc: Global, old: &Datatype) -> Result<Items<Datatype>, NoMemory>
-    ensures { IfOk result (λ list. list ≡ old.now ∷ []) }
-{
-    let mut list = Items::new(alloc);
-    list.push(old.share()?)?;
-    Ok(list)
-}
-
-/// The old datatypes of the parts of a struct.
-fn part_types(alloc: Global, parts: &[Part]) -> Result<Items<Datatype>, NoMemory>
-    ensures { IfOk result (λ list. list ≡ map (λ p. p.old) parts.now) }
-{
-    let mut list = Items::new(alloc);
-    for part in parts {
-        list.push(part.old.share()?)?;
-    }
-    Ok(list)
-}
 
 /// The old datatypes of a form.
 fn types(alloc: Global, form: &Form) -> Result<Items<Datatype>, NoMemory>
     ensures { IfOk result (λ list. list ≡ olds_of form.now) }
 {
-    match form {
-        FormOf::Named(_) => Ok(Items::new(alloc)),
-        FormOf::Struct { parts } => part_types(alloc, parts.as_slice()),
-        FormOf::Dup { old }
-        | FormOf::Contiguous { old, .. }
-        | FormOf::Vector { old, .. }
-        | FormOf::Hvector { old, .. }
-        | FormOf::Indexed { old, .. }
-        | FormOf::Hindexed { old, .. }
-        | FormOf::IndexedBlock { old, .. }
-        | FormOf::HindexedBlock { old, .. }
-        | FormOf::Subarray { old, .. }
-        | FormOf::Darray { old, .. }
-        | FormOf::Resized { old, .. } => only_type(alloc, old),
+    let mut list = Items::new(alloc);
+    'olds: for k in 0..form.number_of_olds() {
+        list.push(form.old_type(k).share()?)?;
     }
+    Ok(list)
 }
 
 /// All three lists of a form.

@@ -1,5 +1,5 @@
 //! How heavy and how deep a form makes its datatype.
-ghost use Rattle.std.specs.Prelude.{◌≡◌, map};
+ghost use Rattle.std.specs.Prelude.{◌≡◌};
 ghost use Rattle.std.specs.List.{AllByRecursion, sum_by};
 ghost use Rattle.dt_form.specs.Form.{olds_of};
 ghost use Rattle.dt_type.specs.Datatype.{weight_of};
@@ -7,51 +7,17 @@ ghost use Rattle.dt_type.specs.Form as spec;
 ghost use Rattle.dt_type.specs.Whole.{IsWhole};
 ghost use Rattle.dt_offsets.specs.Reach.{capped};
 
-use crate::datatype::{Form, Part};
-use dt_form::FormOf;
-
-/// The weights of the old types of parts, up to the greatest `u64`.
-fn weight_of_parts(parts: &[Part]) -> u64
-    ensures { result ≡ capped (sum_by weight_of (map (λ p. p.old) parts.now)) }
-{
-    let mut weight: u64 = 0;
-    for part in parts {
-        weight = weight.saturating_add(part.old.weight());
-    }
-    weight
-}
-
-/// The depth of the deepest old type of parts.
-fn depth_of_parts(parts: &[Part]) -> u32
-    ensures value { result ≡ spec.deepest (map (λ p. p.old) parts.now) }
-    ensures whole { AllByRecursion IsWhole (map (λ p. p.old) parts.now) }
-{
-    let mut depth: u32 = 0;
-    for part in parts {
-        depth = depth.max(part.old.depth());
-    }
-    depth
-}
+use crate::datatype::Form;
 
 /// The weights of the old types, up to the greatest `u64`.
 fn weight_of_olds(form: &Form) -> u64
     ensures { result ≡ capped (sum_by weight_of (olds_of form.now)) }
 {
-    match form {
-        FormOf::Named(_) => 0,
-        FormOf::Struct { parts } => weight_of_parts(parts.as_slice()),
-        FormOf::Dup { old }
-        | FormOf::Contiguous { old, .. }
-        | FormOf::Vector { old, .. }
-        | FormOf::Hvector { old, .. }
-        | FormOf::Indexed { old, .. }
-        | FormOf::Hindexed { old, .. }
-        | FormOf::IndexedBlock { old, .. }
-        | FormOf::HindexedBlock { old, .. }
-        | FormOf::Subarray { old, .. }
-        | FormOf::Darray { old, .. }
-        | FormOf::Resized { old, .. } => old.weight(),
+    let mut weight: u64 = 0;
+    'olds: for k in 0..form.number_of_olds() {
+        weight = weight.saturating_add(form.old_type(k).weight());
     }
+    weight
 }
 
 /// The depth of the deepest old type.
@@ -59,21 +25,11 @@ fn depth_of_olds(form: &Form) -> u32
     ensures value { result ≡ spec.deepest (olds_of form.now) }
     ensures whole { AllByRecursion IsWhole (olds_of form.now) }
 {
-    match form {
-        FormOf::Named(_) => 0,
-        FormOf::Struct { parts } => depth_of_parts(parts.as_slice()),
-        FormOf::Dup { old }
-        | FormOf::Contiguous { old, .. }
-        | FormOf::Vector { old, .. }
-        | FormOf::Hvector { old, .. }
-        | FormOf::Indexed { old, .. }
-        | FormOf::Hindexed { old, .. }
-        | FormOf::IndexedBlock { old, .. }
-        | FormOf::HindexedBlock { old, .. }
-        | FormOf::Subarray { old, .. }
-        | FormOf::Darray { old, .. }
-        | FormOf::Resized { old, .. } => old.depth(),
+    let mut depth: u32 = 0;
+    'olds: for k in 0..form.number_of_olds() {
+        depth = depth.max(form.old_type(k).depth());
     }
+    depth
 }
 
 /// The weight of the datatype that a form makes, up to the greatest `u64`.
