@@ -6,7 +6,7 @@ use Rattle.std.proofs.lemmas.Int.{ints}
 use Rattle.std.proofs.Math.Nat.{mul-le-mul_right, mul_assoc}
 use Rattle.dt_kinds.specs.Displacement.{FitsDisp}
 use Rattle.dt_offsets.specs.declared.turns.Turns.{Turns}
-use Rattle.dt_type.specs.Arrays.{product}
+use Rattle.dt_form.specs.Arguments.{product}
 use Rattle.dt_offsets.specs.Near.{IsFactor}
 use Rattle.dt_type.specs.Conditions.{AreShapeTurns, AreNested}
 use Rattle.dt_offsets.specs.Offsets.{turn_offsets, grid_offsets}

@@ -13,21 +13,24 @@ use Rattle.dt_map.specs.Typemap.{Marked, shift}
 use Rattle.dt_type.specs.declared.datatype.Seen.{Seen}
 use Rattle.dt_type.specs.declared.fault.CtorFault.{CtorFault}
 use Rattle.dt_type.specs.declared.fault.CtorFault.TheVariants.{BadArgument, Overflow, TooDeep, TooHeavy, NoMemory}
-use Rattle.dt_type.specs.declared.form.FormOf.{FormOf}
-use Rattle.dt_type.specs.declared.form.Order.{Order}
-use Rattle.dt_type.specs.declared.form.Order.TheVariants.{C, Fortran}
+use Rattle.dt_form.specs.declared.form.FormOf.{FormOf}
+use Rattle.dt_form.specs.declared.form.Order.{Order}
+use Rattle.dt_form.specs.declared.form.Order.TheVariants.{C, Fortran}
 use Rattle.dt_type.specs.declared.shape.Cover.TheVariants.{Erase}
 use Rattle.dt_type.specs.declared.shape.ShapeOf.TheVariants.{Grid}
 use Rattle.dt_offsets.specs.declared.turns.Turns.{Turns}
-use Rattle.dt_type.specs.Arrays.{product, chosen_places}
-use Rattle.dt_type.specs.Conditions.{AreShapeTurns, AreNested, IsShapeFor}
+use Rattle.dt_form.specs.Arguments.{product}
+use Rattle.dt_type.specs.Arrays.{chosen_places}
+use Rattle.dt_type.specs.Conditions.{AreShapeTurns, AreNested}
+use Rattle.dt_type.specs.ShapeFor.{IsShapeFor}
 use Rattle.dt_type.specs.Datatype.{typemap_of, entries_of}
 use Rattle.dt_map.specs.Limits.{IsInRange}
 use Rattle.dt_type.specs.Form.{map_by, array}
 use Rattle.dt_type.specs.Listing.{entries_at}
-use Rattle.dt_type.specs.Shape.{covered, placed_by}
+use Rattle.dt_type.specs.Cover.{covered}
+use Rattle.dt_type.specs.Shape.{placed_by}
 use Rattle.dt_offsets.specs.Offsets.{grid_offsets}
-use Rattle.dt_ctor.specs.Answer.{IsCause}
+use Rattle.dt_type.specs.Answer.{IsCause}
 use Rattle.dt_array.specs.declared.indices.Indices.{Indices}
 use Rattle.dt_array.specs.declared.nest.Nest.{Nest}
 use Rattle.dt_array.specs.Array.{IsArrayOf}
@@ -75,10 +78,14 @@ module _ (order : Order) (dims : List Indices) (old shared : Seen) (form : FormO
     numbers =
         subst (λ (ts : List Turns). AllByRecursion AreShapeTurns ts × AreNested ts) (sym h.turns)
         (have_numbers read (outermost_first order dims) (outermost_inside order dims inside) (subst FitsDisp (sym (outermost_span read order dims)) h.fits));
-    items = ap length h.turns ∙ length-inward read (outermost_first order dims) ∙ length-outermost order dims ∙ says.items;
+    items = as_many ∙ says.items;
+    levels = let turns = as_many in let levels = says.levels in omega arith;
     olds = ap (λ (t : Seen). t ∷ []) same ∙ says.olds;
     arguments = says.arguments;
   }
+    where
+      as_many : length nest.turns ≡ length dims
+      as_many = ap length h.turns ∙ length-inward read (outermost_first order dims) ∙ length-outermost order dims
 
   pub places : (nest : Nest) → shared ≡ old → IsNest order read dims nest
       → covered (Erase (record { lb = pos 0; ub = to_z w64 (of_z w64 nest.span) })) (placed_by (Grid nest.turns shared)) ≡ map_by form

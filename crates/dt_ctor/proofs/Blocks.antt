@@ -9,7 +9,7 @@ use Rattle.dt_map.specs.Constructors.{copies_at}
 use Rattle.dt_offsets.specs.Offsets.{below, turn_offset, turn_offsets}
 use Rattle.dt_offsets.proofs.Rows.{in_rows_of}
 use Rattle.dt_type.specs.declared.datatype.Seen.{Seen}
-use Rattle.dt_type.specs.declared.form.FormOf.TheVariants.{Contiguous, Vector, Hvector}
+use Rattle.dt_form.specs.declared.form.FormOf.TheVariants.{Contiguous, Vector, Hvector}
 use Rattle.dt_type.specs.declared.shape.ShapeOf.{ShapeOf}
 use Rattle.dt_type.specs.declared.shape.ShapeOf.TheVariants.{Grid}
 use Rattle.dt_offsets.specs.declared.turns.Turns.{Turns}
@@ -17,7 +17,7 @@ use Rattle.dt_type.specs.Conditions.{AreShapeTurns}
 use Rattle.dt_type.specs.Constructors.{contiguous_offsets, hvector_offsets, vector_offsets}
 use Rattle.dt_type.specs.Datatype.{typemap_of}
 use Rattle.dt_ctor.specs.Places.{Places}
-use Rattle.dt_ctor.proofs.Products.{sum_times, product_times}
+use Rattle.dt_type.proofs.Times.{sum_times, product_times}
 
 abbrev turns : ℕ → ℕ → ℤ → ℤ → Turns
 turns count block jump step = record { first = pos 0; count = count; block = block; jump = jump; step = step }
@@ -51,6 +51,7 @@ one_dimension : (t : Turns) (count block jump : ℤ) (old : Seen) → AreShapeTu
 one_dimension t count block jump old numbers e = record {
   numbers = ((numbers, tt), tt);
   items = refl;
+  levels = omega arith;
   olds = refl;
   typemap = ap (λ xs. copies_at xs (typemap_of old)) (each_alone (turn_offsets t) ∙ e);
 }
@@ -77,6 +78,7 @@ pub as_contiguous : (s : ShapeOf Seen) (count : ℤ) (old : Seen) → Places s (
 as_contiguous s count old h = record {
   numbers = h.numbers;
   items = h.items;
+  levels = h.levels;
   olds = h.olds;
   typemap = h.typemap ∙ ap (λ xs. copies_at xs (typemap_of old)) (in_a_row (nat_abs count) (extent_of (typemap_of old)));
 }
@@ -86,6 +88,7 @@ pub as_vector : (s : ShapeOf Seen) (count block stride jump : ℤ) (old : Seen) 
 as_vector s count block stride jump old e h = record {
   numbers = h.numbers;
   items = h.items;
+  levels = h.levels;
   olds = h.olds;
   typemap =
       h.typemap

@@ -1,6 +1,6 @@
 -- One copy at 0 is the typemap itself.
 use Rattle.std.specs.Prelude.{◌≡◌, Option, Some, None, ℤ, pos, ◌+ℤ◌, List, [], ◌∷◌}
-use Rattle.std.proofs.Common.{refl, sym, ap, subst, ◌∙◌}
+use Rattle.std.proofs.Common.{refl, sym, ap, subst, ◌∙◌, arith}
 use Rattle.std.proofs.Math.IntN.{+ℤ_idr}
 use Rattle.std.proofs.lemmas.List.{append-nil}
 use Rattle.dt_map.specs.declared.entry.Entry.{Entry}
@@ -9,13 +9,14 @@ use Rattle.dt_map.specs.Constructors.{copies_at}
 use Rattle.dt_offsets.specs.Span.{joined_marks, shift_marks}
 use Rattle.dt_map.specs.Typemap.{Marked, shift}
 use Rattle.dt_type.specs.declared.datatype.Seen.{Seen}
-use Rattle.dt_type.specs.declared.form.FormOf.TheVariants.{Dup}
+use Rattle.dt_form.specs.declared.form.FormOf.TheVariants.{Dup}
 use Rattle.dt_type.specs.declared.shape.Cover.TheVariants.{Erase}
 use Rattle.dt_type.specs.declared.shape.ShapeOf.{ShapeOf}
 use Rattle.dt_type.specs.declared.shape.ShapeOf.TheVariants.{Grid}
 use Rattle.dt_offsets.specs.declared.turns.Turns.{Turns}
 use Rattle.dt_type.specs.Datatype.{typemap_of, entries_of}
-use Rattle.dt_type.specs.Shape.{covered, placed_by}
+use Rattle.dt_type.specs.Cover.{covered}
+use Rattle.dt_type.specs.Shape.{placed_by}
 use Rattle.dt_ctor.specs.Places.{Places}
 
 shift_none : (es : List Entry) → shift (pos 0) es ≡ es
@@ -35,7 +36,7 @@ one_copy m =
 
 pub placed_once : (turns : List Turns) (old shared : Seen) → turns ≡ [] → shared ≡ old → Places (Grid turns shared) (Dup old)
 placed_once turns old shared none same =
-    let here : Places (Grid [] old) (Dup old) = record { numbers = (tt, tt); items = refl; olds = refl; typemap = one_copy (typemap_of old) } in
+    let here : Places (Grid [] old) (Dup old) = record { numbers = (tt, tt); items = refl; levels = omega arith; olds = refl; typemap = one_copy (typemap_of old) } in
     subst (λ ts. Places (Grid ts shared) (Dup old)) (sym none) (subst (λ (t : Seen). Places (Grid [] t) (Dup old)) (sym same) here)
 
 abbrev marked : List Entry → ℤ → ℤ → Marked

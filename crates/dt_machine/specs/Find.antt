@@ -3,7 +3,7 @@ use Rattle.std.specs.Prelude.{◌≡◌, ℕ, true, false, List, Some, Result, O
 use Rattle.dt_kinds.specs.Name.{is_left_out}
 use Rattle.dt_script.specs.Name.{is_name}
 use Rattle.dt_type.specs.declared.datatype.Seen.{Seen}
-use Rattle.dt_type.specs.declared.form.FormOf.TheVariants.{Named}
+use Rattle.dt_form.specs.declared.form.FormOf.TheVariants.{Named}
 use Rattle.dt_type.specs.Basic.{is_basic}
 use Rattle.dt_type.specs.Datatype.{form_of}
 use Rattle.dt_machine.specs.declared.find.Found.{Found}

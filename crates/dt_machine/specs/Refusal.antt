@@ -13,9 +13,9 @@ use Rattle.dt_script.specs.declared.command.Fill.{Fill}
 use Rattle.dt_script.specs.declared.command.Fill.TheVariants.{Zero, Count, Hex}
 use Rattle.dt_type.specs.declared.fault.CtorFault.TheVariants as fault
 use Rattle.dt_type.specs.Basic.{is_basic}
-use Rattle.dt_type.specs.Contents.{old_at}
+use Rattle.dt_form.specs.Contents.{old_at}
 use Rattle.dt_type.specs.Datatype.{typemap_of, entries_of, form_of}
-use Rattle.dt_type.specs.Form.{olds_of}
+use Rattle.dt_form.specs.Form.{olds_of}
 use Rattle.dt_machine.specs.declared.state.Kept.{Kept}
 use Rattle.dt_machine.specs.Made.{any_old, IsFaultIn}
 use Rattle.dt_machine.specs.State.{State, type_of, buffer_of, is_unknown, is_basic_word, is_type_taken, is_buffer_taken, bytes_held, bytes_of}

@@ -168,12 +168,12 @@ impl Digest {
         }
     }
 
-    /// The same with these marks.
-    pub fn with_marks(self, marks: Marks) -> Digest
-        ensures { result ≡ record self { marks = Some marks } }
+    /// The same with these marks, or with none.
+    pub fn with_marks(self, marks: Option<Marks>) -> Digest
+        ensures { result ≡ record self { marks = marks } }
     {
         Digest {
-            marks: wide(Some(marks)),
+            marks: wide(marks),
             ..self
         }
     }

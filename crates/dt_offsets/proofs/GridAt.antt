@@ -9,12 +9,10 @@ use Rattle.std.proofs.lemmas.Option.{slice_get-map, slice_get-get_or, get_or_fro
 use Rattle.std.proofs.Math.Nat.{mod-lt, div-lt_iff_lt-mul, div-div-eq-div-mul, mul_assoc, mul_comm, mul-div_cancel_left}
 use Rattle.std.proofs.Math.Seq.{drop-cons}
 use Rattle.dt_offsets.specs.declared.marks.Marks.{Marks}
-use Rattle.dt_offsets.specs.Offsets.{below}
-use Rattle.dt_offsets.specs.Span.{joined_marks}
-use Rattle.dt_offsets.specs.Span.{reach_of, point}
+use Rattle.dt_offsets.specs.Offsets.{below, sums, row_offsets, turn_offset, turn_offsets, grid_offsets}
+use Rattle.dt_offsets.specs.Span.{joined_marks, reach_of, point}
 use Rattle.dt_offsets.specs.declared.turns.Turns.{Turns}
 use Rattle.dt_offsets.specs.Near.{StayNear, IsNearSpan}
-use Rattle.dt_offsets.specs.Offsets.{sums, row_offsets, turn_offset, turn_offsets, grid_offsets}
 use Rattle.dt_offsets.proofs.Lookups.{sum_at, slice_get-left, slice_get-right, grid-inner}
 use Rattle.dt_offsets.proofs.NearNumbers.{grid_near}
 use Rattle.dt_offsets.proofs.Reaches.{length-sums, length-below, count-turns}

@@ -71,7 +71,7 @@ sums-assoc (x ∷ xs) ys zs =
     ∙ ap (λ us. sums (map (λ y. x +ℤ y) ys) zs ++ us) (sums-assoc xs ys zs)
     ∙ sym (flat_map-append (λ x. map (λ z. x +ℤ z) zs) (map (λ y. x +ℤ y) ys) (sums xs ys))
 
-sums-zero : (xs : List ℤ) → sums xs (pos 0 ∷ []) ≡ xs
+pub sums-zero : (xs : List ℤ) → sums xs (pos 0 ∷ []) ≡ xs
 sums-zero [] = refl
 sums-zero (x ∷ xs) = let e : x +ℤ pos 0 ≡ x = omega (arith, ints) in ap (λ u. u ∷ sums xs (pos 0 ∷ [])) e ∙ ap (λ us. x ∷ us) (sums-zero xs)
 

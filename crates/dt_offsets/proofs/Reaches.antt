@@ -7,15 +7,13 @@ use Rattle.std.proofs.lemmas.Grind.{flat_map-append}
 use Rattle.std.proofs.lemmas.List.{length-map, append-nil, take_more}
 use Rattle.std.proofs.Math.Nat.{mul-le-mul_left, mul_comm, mul_assoc}
 use Rattle.dt_offsets.specs.declared.marks.Marks.{Marks}
-use Rattle.dt_offsets.specs.Offsets.{below}
+use Rattle.dt_offsets.specs.Offsets.{below, sums, row_offsets, turn_offset, turn_offsets, grid_offsets, spot_offsets}
 use Rattle.dt_offsets.specs.Span.{point, reach_of, stretched}
-use Rattle.dt_offsets.proofs.Spans.{reach_of_sums}
-use Rattle.dt_offsets.proofs.Spans.{both, spans-append}
+use Rattle.dt_offsets.proofs.Spans.{reach_of_sums, both, spans-append}
 use Rattle.dt_offsets.specs.declared.turns.Spot.{Spot}
 use Rattle.dt_offsets.specs.declared.turns.Turns.{Turns}
 use Rattle.dt_offsets.specs.declared.reach.Reach.{Reach}
 use Rattle.dt_offsets.specs.Reach.{capped, reach, beside, summed}
-use Rattle.dt_offsets.specs.Offsets.{sums, row_offsets, turn_offset, turn_offsets, grid_offsets, spot_offsets}
 
 abbrev most : ℕ
 most = 2 ^ 64 - 1

@@ -4,15 +4,11 @@ use Rattle.std.specs.List.{flat_map}
 use Rattle.std.proofs.Common.{refl, ap, ◌∙◌, arith}
 use Rattle.std.proofs.lemmas.Int.{ints}
 use Rattle.std.proofs.Math.Nat.{mod-lt}
-use Rattle.dt_offsets.specs.Offsets.{sums}
-use Rattle.dt_offsets.specs.Offsets.{below}
-use Rattle.dt_offsets.specs.Span.{joined_marks}
-use Rattle.dt_offsets.specs.Span.{point, reach_of, stretched}
+use Rattle.dt_offsets.specs.Offsets.{sums, below, row_offsets, turn_offset, turn_offsets}
+use Rattle.dt_offsets.specs.Span.{joined_marks, point, reach_of, stretched}
 use Rattle.dt_offsets.proofs.Rows.{in_rows_of}
-use Rattle.dt_offsets.proofs.Spans.{reach_of_sums}
-use Rattle.dt_offsets.proofs.Spans.{spans-append}
+use Rattle.dt_offsets.proofs.Spans.{reach_of_sums, spans-append}
 use Rattle.dt_offsets.specs.declared.turns.Turns.{Turns}
-use Rattle.dt_offsets.specs.Offsets.{row_offsets, turn_offset, turn_offsets}
 
 abbrev pub whole_blocks : ℤ → ℕ → ℤ → ℕ → ℤ → List ℤ
 whole_blocks first blocks jump block step = flat_map (λ i. row_offsets (first +ℤ (pos i *ℤ jump)) block step) (below blocks)

@@ -7,7 +7,7 @@ ghost use Rattle.dt_script.specs.Forms.{contiguous_of, vector_of, hvector_of, in
 use crate::command::{Ctor, NamedPart};
 use crate::line::LineFault;
 use crate::reading::{address, end, int, items, name, order, word};
-use dt_type::{AddrBlock, DistDim, IntBlock, SubDim};
+use dt_form::{AddrBlock, DistDim, IntBlock, SubDim};
 use std::alloc::Global;
 
 /// `COUNT TYPE`

@@ -8,7 +8,7 @@ use crate::array::{darg, dist};
 use crate::command::NamedPart;
 use crate::name::Name;
 use crate::number::{address, int};
-use dt_type::{AddrBlock, DistDim, IntBlock, SubDim};
+use dt_form::{AddrBlock, DistDim, IntBlock, SubDim};
 
 /// What one word can spell.
 pub(crate) trait Item: Sized {

@@ -14,7 +14,7 @@ use crate::line::LineFault;
 use crate::name::Name;
 use crate::words::next_word;
 use crate::{array, number};
-use dt_type::Order;
+use dt_form::Order;
 use sqlite_items::Items;
 use std::alloc::Global;
 

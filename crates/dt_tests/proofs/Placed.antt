@@ -8,18 +8,20 @@ use Rattle.dt_kinds.specs.declared.kind.Kind.TheVariants.{Byte, Int}
 use Rattle.dt_kinds.specs.Displacement.{FitsDisp}
 use Rattle.dt_offsets.specs.declared.marks.Marks.{Marks}
 use Rattle.dt_type.specs.declared.datatype.Seen.{Seen, out-Seen, roll-Seen}
-use Rattle.dt_type.specs.declared.form.Dist.TheVariants.{Cyclic}
-use Rattle.dt_type.specs.declared.form.DistDim.{DistDim}
-use Rattle.dt_type.specs.declared.form.FormOf.TheVariants.{Named, Subarray, Darray, Resized}
-use Rattle.dt_type.specs.declared.form.Order.TheVariants.{C}
-use Rattle.dt_type.specs.declared.form.SubDim.{SubDim}
+use Rattle.dt_form.specs.declared.form.Dist.TheVariants.{Cyclic}
+use Rattle.dt_form.specs.declared.form.DistDim.{DistDim}
+use Rattle.dt_form.specs.declared.form.FormOf.TheVariants.{Named, Subarray, Darray, Resized}
+use Rattle.dt_form.specs.declared.form.Order.TheVariants.{C}
+use Rattle.dt_form.specs.declared.form.SubDim.{SubDim}
 use Rattle.dt_type.specs.declared.shape.Cover.TheVariants.{Erase}
 use Rattle.dt_type.specs.declared.shape.ShapeOf.TheVariants.{Grid}
 use Rattle.dt_offsets.specs.declared.turns.Turns.{Turns}
-use Rattle.dt_type.specs.Conditions.{AreShapeTurns, HasNumbers, IsShapeFor}
+use Rattle.dt_type.specs.Conditions.{AreShapeTurns, HasNumbers}
+use Rattle.dt_type.specs.ShapeFor.{IsShapeFor}
 use Rattle.dt_type.specs.Form.{map_by, result_of}
 use Rattle.dt_offsets.specs.Offsets.{grid_offsets}
-use Rattle.dt_type.specs.Shape.{placed_by, covered}
+use Rattle.dt_type.specs.Shape.{placed_by}
+use Rattle.dt_type.specs.Cover.{covered}
 
 abbrev byte : Seen
 byte = result_of (Named Byte)
@@ -39,6 +41,7 @@ pub ragged_is_for : (turns : List Turns) (dims : List DistDim) (a b old : Seen)
 ragged_is_for turns dims a b old e f g h i = rw (e, f, g, h) (record {
   numbers = ((record { first = omega arith; jump = omega arith; step = omega arith; least = omega arith; most = omega arith; count = omega arith }, tt), tt);
   items = refl;
+  levels = omega arith;
   olds = refl;
   arguments = refl;
 })
@@ -63,7 +66,7 @@ falling_marks = record { lb = pos 0; ub = negsuc 3 }
 
 pub falling_is_for : (turns : List Turns) (a b old : Seen) → turns ≡ [] → a ≡ old → b ≡ old
     → IsShapeFor (Grid turns a) (Resized (pos 0) (negsuc 3) b)
-falling_is_for turns a b old e f g = rw (e, f, g) (record { numbers = (tt, tt); items = refl; olds = refl; arguments = refl })
+falling_is_for turns a b old e f g = rw (e, f, g) (record { numbers = (tt, tt); items = refl; levels = omega arith; olds = refl; arguments = refl })
 
 falling_whole : covered (Erase falling_marks) (placed_by (Grid [] int)) ≡ map_by (Resized (pos 0) (negsuc 3) int)
 unfolding out-Seen out roll-Seen roll
@@ -112,7 +115,7 @@ backward_numbers =
 pub backward_is_for : (turns : List Turns) (dims : List SubDim) (a b old : Seen)
     → turns ≡ backward_turns → dims ≡ backward_dims → a ≡ old → b ≡ old → old ≡ falling
     → IsShapeFor (Grid turns a) (Subarray dims C b)
-backward_is_for turns dims a b old e f g h i = rw (e, f, g, h, i) (record { numbers = backward_numbers; items = refl; olds = refl; arguments = refl })
+backward_is_for turns dims a b old e f g h i = rw (e, f, g, h, i) (record { numbers = backward_numbers; items = refl; levels = omega arith; olds = refl; arguments = refl })
 
 backward_whole : covered (Erase backward_marks) (placed_by (Grid backward_turns falling)) ≡ map_by (Subarray backward_dims C falling)
 unfolding out-Seen out roll-Seen roll

@@ -14,7 +14,7 @@ use Rattle.dt_map.specs.Limits.{EntryFits, MarksFit, Fits, IsInRange}
 use Rattle.dt_offsets.specs.Span.{joined_marks}
 use Rattle.dt_map.specs.Typemap.{Marked, shift_entry}
 use Rattle.dt_map.specs.Span.{span_of, entry_span}
-use Rattle.dt_type.proofs.TrueSpans.{true_span_is}
+use Rattle.dt_map.proofs.Summaries.{true_span_is}
 
 Holds : Entry → Option Marks → Type 0
 Holds e None = ⊥
@@ -54,7 +54,7 @@ entry_fits m range k e h = cases (length m.entries == 0) (subst (Holds e) (sym (
 pub entries_fit : (m : Marked) → IsInRange m → All EntryFits m.entries
 entries_fit m range k d lt = entry_fits m range k (slice_index_or m.entries k d) (slice_get-get_or m.entries k d lt)
 
-marks_fit : (entries : List Entry) (marks : Option Marks) → (let m : Marked = record { entries = entries; marks = marks } in IsInRange m) → MarksFit marks
+pub marks_fit : (entries : List Entry) (marks : Option Marks) → (let m : Marked = record { entries = entries; marks = marks } in IsInRange m) → MarksFit marks
 marks_fit entries None range = tt
 marks_fit entries (Some marks) range = (range.lb, range.ub)
 

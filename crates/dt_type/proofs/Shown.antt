@@ -1,18 +1,21 @@
 -- What is seen of a datatype is what its node keeps.
-use Rattle.std.specs.Prelude.{◌≡◌, ℕ, ◌<◌, List, [], ◌∷◌, IsTrue}
+use Rattle.std.specs.Prelude.{◌≡◌, ℕ, zero, suc, ◌<◌, List, [], ◌∷◌, IsTrue}
 use Rattle.std.specs.List.{AllByRecursion}
 use Rattle.std.proofs.Common.{sym, ap, subst, ◌∙◌, arith}
 use Rattle.dt_map.specs.Bounds.{bounds_of}
 use Rattle.dt_map.specs.Typemap.{Marked}
 use Rattle.dt_type.specs.declared.datatype.Node.{Node}
 use Rattle.dt_type.specs.declared.datatype.Seen.{Seen, out-Seen, roll-Seen, out-roll-Seen}
-use Rattle.dt_type.specs.declared.form.FormOf.{FormOf}
-use Rattle.dt_type.specs.Arguments.{takes_arguments}
-use Rattle.dt_type.specs.Conditions.{IsShapeFor}
-use Rattle.dt_type.specs.Datatype.{Layer, typemap_of, form_of, depth_of}
+use Rattle.dt_form.specs.declared.form.FormOf.{FormOf}
+use Rattle.dt_form.specs.Arguments.{takes_arguments}
+use Rattle.dt_type.specs.declared.limits.TheConstants.{WEIGHT_MAX}
+use Rattle.dt_type.specs.ShapeFor.{IsShapeFor}
+use Rattle.dt_type.specs.Whole.{AreProper, IsWhole}
+use Rattle.dt_type.specs.Datatype.{Layer, typemap_of, form_of, weight_of, depth_of}
 use Rattle.dt_map.specs.Limits.{IsInRange}
 use Rattle.dt_type.specs.Falls.{has_level}
-use Rattle.dt_type.specs.Form.{result_of, map_by, weight_by, items_of, deepest}
+use Rattle.dt_type.specs.Form.{result_of, map_by, weight_by, deepest}
+use Rattle.dt_form.specs.Form.{items_of, olds_of as old_types}
 use Rattle.dt_type.proofs.Counted.{sound_elements, sound_external, sound_alignment}
 use Rattle.dt_type.specs.Shape.{olds_of}
 use Rattle.dt_type.specs.Sound.{Sound, layer_of, view_of, map_of}
@@ -50,7 +53,7 @@ shown_arguments n t e sound = subst (λ (f : FormOf Seen). IsTrue (takes_argumen
 pub shown_shape : (n : Node) (t : Seen) → view_of n ≡ t → Sound n → IsShapeFor n.shape (form_of t)
 shown_shape n t e sound = subst (IsShapeFor n.shape) (sym (shown_form n t e)) sound.shape
 
-pub shown_few : (n : Node) (t : Seen) → view_of n ≡ t → Sound n → items_of (form_of t) < 65536
+pub shown_few : (n : Node) (t : Seen) → view_of n ≡ t → Sound n → items_of (form_of t) < WEIGHT_MAX
 shown_few n t e sound =
     let same = ap items_of (shown_form n t e) in
     let weight = sound.weight in
@@ -70,4 +73,22 @@ shown_below n t e sound =
     let level = has_level n.form sound.shape.arguments in
     all_under (depth_of t) (olds_of n.shape) (omega arith)
 
-pub ruleset readers = (shown, shown_bounds, shown_range, shown_given, shown_arguments, shown_shape, shown_few, shown_below, given, sound_elements, sound_external, sound_alignment)
+-- the whole of it, on every level
+pub shown_whole : (n : Node) (t : Seen) → view_of n ≡ t → Sound n → IsWhole t
+shown_whole n t e sound zero = tt
+shown_whole n t e sound (suc levels) = (
+  record {
+    made = shown_given n t e sound;
+    arguments = shown_arguments n t e sound;
+    in_range = shown_range n t e sound;
+    shallow = let depth : depth_of t ≡ n.depth = ap (λ (l : Layer). l.depth) (shown n t e) in let h = sound.shallow in omega arith;
+    light = let weight : weight_of t ≡ n.weight = ap (λ (l : Layer). l.weight) (shown n t e) in let h = sound.light in omega arith;
+  },
+  subst (AllByRecursion (AreProper levels)) (ap old_types (sym (shown_form n t e))) (on_level levels (old_types n.form) sound.olds),
+)
+  where
+    on_level : (levels : ℕ) (olds : List Seen) → AllByRecursion IsWhole olds → AllByRecursion (AreProper levels) olds
+    on_level levels [] all = tt
+    on_level levels (old ∷ olds) all = (all.0 levels, on_level levels olds all.1)
+
+pub ruleset readers = (shown, shown_bounds, shown_range, shown_given, shown_arguments, shown_shape, shown_few, shown_below, shown_whole, given, sound_elements, sound_external, sound_alignment)

@@ -1,12 +1,16 @@
 use Rattle.std.specs.Prelude.{◌≡◌, ◌≤◌}
+use Rattle.std.specs.List.{AllByRecursion}
 use Rattle.dt_map.specs.Bounds.{bounds_of}
 use Rattle.dt_map.specs.Typemap.{Marked}
 use Rattle.dt_type.specs.declared.datatype.Node.{Node}
+use Rattle.dt_type.specs.declared.limits.TheConstants.{DEPTH_MAX, WEIGHT_MAX}
 use Rattle.dt_type.specs.declared.datatype.Seen.{Seen, roll-Seen}
-use Rattle.dt_type.specs.Conditions.{IsShapeFor}
+use Rattle.dt_type.specs.ShapeFor.{IsShapeFor}
+use Rattle.dt_type.specs.Whole.{IsWhole}
 use Rattle.dt_type.specs.Datatype.{Layer}
 use Rattle.dt_map.specs.Limits.{IsInRange}
 use Rattle.dt_type.specs.Form.{map_by, weight_by, depth_by}
+use Rattle.dt_form.specs.Form.{olds_of}
 use Rattle.dt_type.specs.Shape.{placed_by}
 
 -- a node's typemap is what its shape places, with the marks that it keeps
@@ -26,6 +30,7 @@ pub record Sound (n : Node) : Type 0 where
   pub weight : n.weight ≡ weight_by n.form
   pub depth : n.depth ≡ depth_by n.form
   pub in_range : IsInRange (map_of n)
-  pub shallow : n.depth ≤ 64
-  pub light : n.weight ≤ 65536
+  pub shallow : n.depth ≤ DEPTH_MAX
+  pub light : n.weight ≤ WEIGHT_MAX
   pub shape : IsShapeFor n.shape n.form
+  pub olds : AllByRecursion IsWhole (olds_of n.form)

@@ -1,17 +1,21 @@
 //! A datatype: a marked typemap with its form, shared by `Rc`.
-ghost use Rattle.std.specs.Prelude.{◌≡◌, ◌≤◌, ◌<◌, IsTrue, IfOk};
+ghost use Rattle.std.specs.Prelude.{◌≡◌, ◌≤◌, ◌<◌, ◌^◌, nat_abs, IsTrue, IfOk};
 ghost use Rattle.std.specs.List.{AllByRecursion};
-ghost use Rattle.dt_map.specs.Bounds.{bounds_of};
-ghost use Rattle.dt_type.specs.Arguments.{takes_arguments};
-ghost use Rattle.dt_type.specs.Conditions.{IsShapeFor};
+ghost use Rattle.dt_map.specs.Bounds.{bounds_of, extent_of};
+ghost use Rattle.dt_form.specs.Arguments.{takes_arguments};
+ghost use Rattle.dt_type.specs.Basic as basic;
 ghost use Rattle.dt_type.specs.Datatype.{typemap_of, entries_of, marks_of, form_of, weight_of, depth_of};
 ghost use Rattle.dt_map.specs.Limits.{IsInRange};
-ghost use Rattle.dt_type.specs.Form.{result_of, map_by, items_of};
+ghost use Rattle.dt_type.specs.Form.{result_of, map_by};
+ghost use Rattle.dt_form.specs.Form.{items_of};
 ghost use Rattle.dt_type.specs.Shape.{placed_by, olds_of as placed_olds};
+ghost use Rattle.dt_type.specs.ShapeFor.{IsShapeFor};
 ghost use Rattle.dt_type.specs.Sound.{Sound};
+ghost use Rattle.dt_type.specs.Whole.{IsWhole};
 
-use crate::form::{Form, FormOf};
+use crate::limits::{DEPTH_MAX, WEIGHT_MAX};
 use crate::shape::{Shape, ShapeOf};
+use dt_form::{ContentsOf, FormOf, PartOf};
 use dt_kinds::{Kind, NoMemory};
 use dt_map::{Bounds, Entry, Marks};
 use sqlite_items::{Boxed, Items};
@@ -35,6 +39,15 @@ pub struct Seen {
 pub struct Datatype {
     node: Rc<Node>,
 }
+
+/// The constructor and the arguments of a datatype.
+pub type Form = FormOf<Datatype>;
+
+/// A part of a struct.
+pub type Part = PartOf<Datatype>;
+
+/// The arguments of a datatype, in three lists.
+pub type Contents = ContentsOf<Datatype>;
 
 #[cycle(datatype)]
 #[derive(Drop)]
@@ -91,20 +104,18 @@ impl Datatype {
         requires { Sound node }
         ensures { IfOk result (λ t. t ≡ result_of node.form) }
     {
-        match Rc::new(alloc, node) {
-            Ok(node) => Ok(Datatype { node }),
-            Err(_) => Err(NoMemory),
-        }
+        Ok(Datatype {
+            node: Rc::new(alloc, node)?,
+        })
     }
 
     /// The same datatype again. It takes no memory, but an `Rc` may refuse one more owner.
     pub fn share(&self) -> Result<Datatype, NoMemory>
         ensures { IfOk result (λ t. t ≡ self.now) }
     {
-        match self.node.clone() {
-            Ok(node) => Ok(Datatype { node }),
-            Err(_) => Err(NoMemory),
-        }
+        Ok(Datatype {
+            node: self.node.clone()?,
+        })
     }
 
     /// Sizes and bounds of the typemap (MPI 4.1, sections 5.1.5 to 5.1.8).
@@ -118,6 +129,21 @@ impl Datatype {
         self.node.bounds
     }
 
+    /// From the lower to the upper bound in bytes, negative where the upper one is less.
+    pub fn extent(&self) -> i128
+        ensures value { result ≡ extent_of (typemap_of self.now) }
+        ensures small { nat_abs result ≤ 2 ^ 61 }
+    {
+        self.bounds().extent()
+    }
+
+    /// Whether no constructor made the datatype (MPI 4.1, section 3.2.2).
+    pub fn is_basic(&self) -> bool
+        ensures { result ≡ basic.is_basic self.now }
+    {
+        self.form().is_named()
+    }
+
     /// The marks, where the typemap has them.
     pub fn marks(&self) -> Option<Marks>
         ensures { result ≡ marks_of self.now }
@@ -128,7 +154,7 @@ impl Datatype {
     /// 1, and one more for each item of the form, and the weights of the old types.
     pub fn weight(&self) -> u64
         ensures value { result ≡ weight_of self.now }
-        ensures light { result ≤ 65536 }
+        ensures light { result ≤ WEIGHT_MAX }
     {
         self.node.weight
     }
@@ -136,7 +162,8 @@ impl Datatype {
     /// 1 for a basic type; else the levels of the constructor above the deepest old type.
     pub fn depth(&self) -> u32
         ensures value { result ≡ depth_of self.now }
-        ensures shallow { result ≤ 64 }
+        ensures shallow { result ≤ DEPTH_MAX }
+        ensures whole { IsWhole self.now }
     {
         self.node.depth
     }
@@ -146,7 +173,8 @@ impl Datatype {
         ensures value { result.now ≡ form_of self.now }
         ensures made { self.now ≡ result_of (form_of self.now) }
         ensures arguments { IsTrue (takes_arguments (form_of self.now)) }
-        ensures few { items_of (form_of self.now) < 65536 }
+        ensures few { items_of (form_of self.now) < WEIGHT_MAX }
+        ensures whole { IsWhole self.now }
     {
         &self.node.form
     }
@@ -154,8 +182,10 @@ impl Datatype {
     /// What the datatype places where.
     pub fn shape(&self) -> &Shape
         ensures placed { (placed_by result.now).entries ≡ entries_of self.now }
+        ensures made { self.now ≡ result_of (form_of self.now) }
         ensures beside_form { IsShapeFor result.now (form_of self.now) }
         ensures below { AllByRecursion (λ old. depth_of old < depth_of self.now) (placed_olds result.now) }
+        ensures whole { IsWhole self.now }
     {
         &self.node.shape
     }

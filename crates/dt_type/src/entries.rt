@@ -6,60 +6,16 @@ ghost use Rattle.dt_kinds.specs.Displacement.{FitsDisp};
 ghost use Rattle.dt_map.specs.Constructors.{copies_at};
 ghost use Rattle.dt_map.specs.Placing.{place};
 ghost use Rattle.dt_map.specs.Typemap.{shift_entry};
-ghost use Rattle.dt_offsets.specs.Near.{IsFactor, IsSpot};
-ghost use Rattle.dt_type.specs.Conditions.{AreShapeTurns, AreNested, IsShapePart};
+ghost use Rattle.dt_offsets.specs.Near.{IsFactor, AreTurns, StayNear, IsSpot};
+ghost use Rattle.dt_type.specs.Conditions.{IsShapePart};
 ghost use Rattle.dt_type.specs.Datatype.{typemap_of, entries_of, depth_of};
 ghost use Rattle.dt_offsets.specs.Offsets.{row_offsets, turn_offset, grid_offsets, spot_offsets};
 ghost use Rattle.dt_type.specs.Shape.{part_members, placed_parts};
 
 use crate::datatype::Datatype;
-use crate::shape::{ShapeOf, ShapePart, Spot, Turns};
-use crate::span::along;
+use crate::shape::{ShapeOf, ShapePart};
 use dt_map::Entry;
-
-/// The offset of one of the turns.
-fn turn_at(turns: &Turns, turn: u64) -> i128
-    requires turns { AreShapeTurns turns.now }
-    requires within { turn < turns.now.count }
-    ensures { result ≡ turn_offset turns.now turn }
-{
-    let block = along(turns.first, turn / turns.block, turns.jump);
-    along(block, turn % turns.block, turns.step)
-}
-
-/// The offset of one of the copies that nested turns place.
-pub(crate) fn grid_at(turns: &[Turns], copies: u64, copy: u64) -> i128
-    requires turns { AllByRecursion AreShapeTurns turns.now }
-    requires nested { AreNested turns.now }
-    requires copies { copies ≡ length (grid_offsets turns.now) }
-    requires within { copy < copies }
-    ensures { result ≡ get_or (grid_offsets turns.now) copy (pos 0) }
-{
-    let mut left = copies;
-    let mut offset: i128 = 0;
-    for inner in turns {
-        left /= inner.count;
-        offset += turn_at(inner, copy / left % inner.count);
-    }
-    offset
-}
-
-/// The offset of one of the copies that spots place.
-fn spots_at(spots: &[Spot], copy: u64) -> i128
-    requires spots { AllByRecursion IsSpot spots.now }
-    requires within { copy < length (spot_offsets spots.now) }
-    ensures { slice_get (spot_offsets spots.now) copy ≡ Some result }
-{
-    let mut left = copy;
-    for spot in spots {
-        let copies = u64::from(spot.copies);
-        if left < copies {
-            return along(spot.first, left, spot.step);
-        }
-        left -= copies;
-    }
-    unreachable!()
-}
+use dt_offsets::{Spot, Turns, along, grid_at, spots_at};
 
 /// The part that has an entry, and the number of the entry among those of the part.
 fn part_at(parts: &[ShapePart], entry: u64) -> (&ShapePart, u64)
@@ -83,8 +39,8 @@ fn part_at(parts: &[ShapePart], entry: u64) -> (&ShapePart, u64)
 
 /// For an entry of copies that nested turns place: the offset of its copy, and its number in the old type.
 fn in_grid(turns: &[Turns], old: &Datatype, entries: u64, entry: u64) -> (i128, u64)
-    requires turns { AllByRecursion AreShapeTurns turns.now }
-    requires nested { AreNested turns.now }
+    requires turns { AllByRecursion AreTurns turns.now }
+    requires near { StayNear turns.now }
     requires entries { entries ≡ length (copies_at (grid_offsets turns.now) (typemap_of old.now)).entries }
     requires within { entry < entries }
     ensures { slice_get (copies_at (grid_offsets turns.now) (typemap_of old.now)).entries entry ≡ option_map (shift_entry result.0) (slice_get (entries_of old.now) result.1) }

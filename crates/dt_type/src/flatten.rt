@@ -2,20 +2,19 @@
 ghost use Rattle.std.specs.Prelude.{◌≡◌, ◌++◌, ◌<◌, length, IfOk, OnOk};
 ghost use Rattle.std.specs.List.{AllByRecursion};
 ghost use Rattle.dt_map.specs.Typemap.{shift};
-ghost use Rattle.dt_offsets.specs.Near.{IsFactor, IsSpot};
-ghost use Rattle.dt_type.specs.Conditions.{AreShapeTurns, AreNested};
+ghost use Rattle.dt_offsets.specs.Near.{IsFactor, AreTurns, StayNear, IsSpot};
 ghost use Rattle.dt_type.specs.Datatype.{entries_of};
 ghost use Rattle.dt_type.specs.Flatten.{IsFlattened};
 ghost use Rattle.dt_type.specs.Listing.{entries_at, HaveDisps};
 ghost use Rattle.dt_offsets.specs.Offsets.{row_offsets, grid_offsets, spot_offsets};
 
 use crate::datatype::Datatype;
-use crate::entries::{further, grid_at};
+use crate::entries::further;
 use crate::fault::FlattenFault;
-use crate::shape::{ShapeOf, Spot, Turns};
-use crate::span::along;
+use crate::shape::ShapeOf;
 use dt_kinds::NoMemory;
 use dt_map::{Entry, FlatMap};
+use dt_offsets::{Spot, Turns, along, grid_at};
 use std::alloc::Global;
 
 /// Appends a copy of entries, so many bytes further on.
@@ -36,8 +35,8 @@ fn push_grid(
     one: &[Entry],
     entries: u64,
 ) -> Result<(), NoMemory>
-    requires turns { AllByRecursion AreShapeTurns turns.now }
-    requires nested { AreNested turns.now }
+    requires turns { AllByRecursion AreTurns turns.now }
+    requires near { StayNear turns.now }
     requires fit { HaveDisps (entries_at (grid_offsets turns.now) one.now) }
     requires entries { entries ≡ length (entries_at (grid_offsets turns.now) one.now) }
     requires some { 0 < entries }
@@ -134,9 +133,7 @@ impl Datatype {
         if self.bounds().elements > max {
             return Err(FlattenFault::TooMany);
         }
-        let Ok(entries) = self.listed(alloc) else {
-            return Err(FlattenFault::NoMemory);
-        };
+        let entries = self.listed(alloc)?;
         Ok(FlatMap::new(entries, self.marks()).unwrap())
     }
 }

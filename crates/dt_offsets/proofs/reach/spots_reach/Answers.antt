@@ -1,10 +1,9 @@
 use Rattle.std.proofs.Common.{◌≡◌, ◌∙◌, sym, ap, subst, take, get_or, pos}
 use Rattle.dt_offsets.specs.declared.turns.Spot.{Spot}
 use Rattle.dt_offsets.specs.declared.reach.Reach.{Reach}
-use Rattle.dt_offsets.specs.Near.{IsSpot}
+use Rattle.dt_offsets.specs.Near.{IsSpot, IsNearSpan}
 use Rattle.dt_offsets.specs.Reach.{beside, reach}
 use Rattle.dt_offsets.specs.Offsets.{spot_offsets, row_offsets}
-use Rattle.dt_offsets.specs.Near.{IsNearSpan}
 use Rattle.dt_offsets.proofs.NearNumbers.{all_at, joined_near}
 use Rattle.dt_offsets.proofs.Products.{factor_back}
 use Rattle.dt_offsets.proofs.Reaches.{spots-step}

@@ -2,7 +2,8 @@ use Rattle.std.proofs.Common.{◌≡◌, ◌∙◌, sym, ap, subst, take}
 use Rattle.dt_type.specs.declared.datatype.Seen.{Seen}
 use Rattle.dt_type.specs.declared.shape.ShapePartOf.{ShapePartOf}
 use Rattle.dt_type.specs.Conditions.{IsShapePart}
-use Rattle.dt_type.specs.Digest.{digest_of, joined, repeated}
+use Rattle.dt_map.specs.Digest.{capped_sums, digest_of}
+use Rattle.dt_map.specs.Summary.{joined, copied}
 use Rattle.dt_offsets.specs.Reach.{reach}
 use Rattle.dt_type.specs.Shape.{placed_parts}
 use Rattle.dt_offsets.specs.Offsets.{row_offsets}
@@ -22,7 +23,8 @@ loop-part-preserved c =
     let row : c.row_reach-reach.result ≡ reach (row_offsets p.first p.copies p.step) = cc in
     let before = digest_of (placed_parts (take i c.args.parts.now)) in
     let next = digest-part c.args.parts.now i p p c.loop-part-test.true c.part-item.is in
+    let offsets = reach (row_offsets p.first p.copies p.step) in
     c.joined-digest.ensures
-    ∙ ap (λ d. joined d c.repeated.result) c.loop-part.invariant
-    ∙ ap (joined before) (c.repeated.ensures ∙ ap (λ r. repeated r c.of_type.result) row ∙ ap (repeated (reach (row_offsets p.first p.copies p.step))) c.of_type.ensures.value)
+    ∙ ap (λ d. capped_sums (joined d c.copied.result)) c.loop-part.invariant
+    ∙ ap (λ d. capped_sums (joined before d)) (c.copied.ensures ∙ ap (λ r. capped_sums (copied r.span r.copies c.of_type.result)) row ∙ ap (λ d. capped_sums (copied offsets.span offsets.copies d)) c.of_type.ensures.value)
     ∙ sym next

@@ -1,5 +1,5 @@
 use Rattle.std.proofs.Common.{◌≡◌, take}
-use Rattle.dt_type.specs.Digest.{digest_of}
+use Rattle.dt_map.specs.Digest.{digest_of}
 use Rattle.dt_type.specs.Shape.{placed_parts}
 use Rattle.dt_type.proofs.digest.of_parts.Given as goal
 

@@ -14,6 +14,7 @@ use Rattle.dt_type.specs.Shape.{placed_by, placed_parts, olds_of}
 use Rattle.dt_offsets.specs.Offsets.{row_offsets, grid_offsets, spot_offsets}
 use Rattle.dt_offsets.proofs.Products.{factor_back}
 use Rattle.dt_type.proofs.EntryFits.{moved_fits, all_of_map}
+use Rattle.dt_type.proofs.ShapeNumbers.{read_grid}
 use Rattle.dt_type.proofs.datatype.Datatype.+entry_at.Goals as goal
 
 pub moved-requires : goal.moved-requires
@@ -87,3 +88,9 @@ returns-in-Seq t c =
     ∙ ap (λ x. option_map (shift_entry x) (slice_get (entries_of p.old) c.in_row-offset.result.1)) (sym back)
     ∙ ap (option_map (shift_entry (to_z w128 (of_z w128 c.in_row-offset.result.0)))) (sym c.entry_at-in-Seq.ensures) in
     c.moved-in-Seq.ensures ∙ sym seen
+
+pub in_grid-offset-requires-clause-turns : goal.in_grid-offset-requires-clause-turns
+in_grid-offset-requires-clause-turns t c = (read_grid c.shape.result.now c.as_slice.result.now c.in-Grid.turns c.in-Grid.old c.shape.ensures.beside_form.numbers c.in-Grid.is c.as_slice.ensures).0
+
+pub in_grid-offset-requires-clause-near : goal.in_grid-offset-requires-clause-near
+in_grid-offset-requires-clause-near t c = (read_grid c.shape.result.now c.as_slice.result.now c.in-Grid.turns c.in-Grid.old c.shape.ensures.beside_form.numbers c.in-Grid.is c.as_slice.ensures).1

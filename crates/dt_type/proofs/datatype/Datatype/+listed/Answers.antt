@@ -15,6 +15,7 @@ use Rattle.dt_type.proofs.EntryFits.{all_of_map}
 use Rattle.dt_type.proofs.Listings.{in_range_fits, whole, grid_listed, spots_listed, parts_listed, part_skipped, part_more, part_fits}
 use Rattle.dt_type.proofs.Lookups.{part_entries, entries-parts}
 use Rattle.dt_offsets.proofs.NearNumbers.{all_at}
+use Rattle.dt_type.proofs.ShapeNumbers.{read_grid}
 use Rattle.dt_type.proofs.datatype.Datatype.+listed.Goals as goal
 
 pub push_grid-requires-clause-fit : goal.push_grid-requires-clause-fit
@@ -90,3 +91,9 @@ returns-after-parts t c =
     let ps = c.as_slice-part-items.result.now in
     let seen = parts_listed c.shape.result.now (entries_of c.args.self.now) ps c.in-Seq.parts c.shape.ensures.placed c.in-Seq.is c.as_slice-part-items.ensures in
     c.parts.invariant ∙ ap (flat_map part_entries) (take_all c.parts.part-index ps c.parts-test.false) ∙ sym (entries-parts ps) ∙ sym seen
+
+pub push_grid-requires-clause-turns : goal.push_grid-requires-clause-turns
+push_grid-requires-clause-turns t c = (read_grid c.shape.result.now c.as_slice.result.now c.in-Grid.turns c.in-Grid.old c.shape.ensures.beside_form.numbers c.in-Grid.is c.as_slice.ensures).0
+
+pub push_grid-requires-clause-near : goal.push_grid-requires-clause-near
+push_grid-requires-clause-near t c = (read_grid c.shape.result.now c.as_slice.result.now c.in-Grid.turns c.in-Grid.old c.shape.ensures.beside_form.numbers c.in-Grid.is c.as_slice.ensures).1

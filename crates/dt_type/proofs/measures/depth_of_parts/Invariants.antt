@@ -1,7 +1,0 @@
-use Rattle.std.proofs.Common.{◌≡◌, take}
-use Rattle.std.specs.Prelude.{map}
-use Rattle.dt_type.specs.Form.{deepest}
-use Rattle.dt_type.proofs.measures.depth_of_parts.Given as goal
-
-abbrev pub invariant-loop-part : goal.invariant-loop-part
-invariant-loop-part l = l.depth ≡ deepest (map (λ p. p.old) (take l.part-index l.parts))
