@@ -12,7 +12,7 @@ use Rattle.dt_map.specs.Elements.{elements, are_inside, lies_inside}
 use Rattle.dt_offsets.specs.Offsets.{below}
 use Rattle.dt_offsets.specs.Span.{joined_marks, reach_of, stretched}
 use Rattle.dt_map.specs.Span.{span_of}
-use Rattle.dt_map.specs.Summary.{lb_or_zero, ub_or_zero}
+use Rattle.dt_map.specs.Summary.{ends_or_zero}
 use Rattle.dt_map.specs.Typemap.{Marked, shift}
 use Rattle.dt_map.proofs.Placings.{placed}
 use Rattle.dt_offsets.proofs.Spans.{reach_of_even, both}
@@ -64,7 +64,7 @@ never_none : (a : Marks) (s : Option Marks) → joined_marks (Some a) s ≡ None
 never_none a None e = cc
 never_none a (Some b) e = cc
 
-span_known : (s : Option Marks) (es : List Entry) (low high : ℤ) → 0 < length es → span_of es ≡ s → low ≡ lb_or_zero s → high ≡ ub_or_zero s → span_of es ≡ Some (record { lb = low; ub = high })
+span_known : (s : Option Marks) (es : List Entry) (low high : ℤ) → 0 < length es → span_of es ≡ s → low ≡ (ends_or_zero s).lb → high ≡ (ends_or_zero s).ub → span_of es ≡ Some (record { lb = low; ub = high })
 span_known None [] low high some is e f = absurd (omega arith)
 span_known None (x ∷ es) low high some is e f = absurd (never_none _ (span_of es) is)
 span_known (Some s) es low high some is e f = is ∙ both _ _ _ _ (sym e) (sym f)

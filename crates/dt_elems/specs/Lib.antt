@@ -1,4 +1,4 @@
-pub mod Near
+pub mod Place
 pub use Rattle.dt_map.specs.Elements
 pub use Rattle.dt_map.specs.Packed
 pub use Rattle.dt_type.specs.Datatype

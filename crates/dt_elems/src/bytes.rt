@@ -6,9 +6,9 @@ ghost use Rattle.dt_map.specs.Elements.{elements, are_inside, lies_inside};
 ghost use Rattle.dt_map.specs.Packed.{bytes_at, packed};
 ghost use Rattle.dt_map.specs.Typemap.{shift, shift_entry};
 ghost use Rattle.dt_type.specs.Datatype.{typemap_of, entries_of};
-ghost use Rattle.dt_elems.specs.Near.{IsNear};
+ghost use Rattle.dt_elems.specs.Place.{IsPlace};
 
-use crate::place::{copy_at, extent};
+use crate::place::copy_at;
 use crate::span::{has_elements, packed_size};
 use dt_kinds::{Kind, NoMemory, Rep};
 use dt_map::Entry;
@@ -17,7 +17,7 @@ use std::alloc::Global;
 
 /// Where an entry that is moved on begins in a buffer of so many bytes, in which it lies.
 fn start_of(entry: Entry, at: i128, len: usize) -> usize
-    requires near { IsNear at }
+    requires near { IsPlace at }
     requires inside { IsTrue (lies_inside len (shift_entry at entry)) }
     ensures value { result ≡ nat_abs (entry.disp +ℤ at) }
     ensures within { result + native_size entry.kind ≤ len }
@@ -27,7 +27,7 @@ fn start_of(entry: Entry, at: i128, len: usize) -> usize
 
 /// The bytes of an entry that is moved on.
 fn element_bytes(buffer: &[u8], entry: Entry, at: i128) -> &[u8]
-    requires near { IsNear at }
+    requires near { IsPlace at }
     requires inside { IsTrue (lies_inside (length buffer.now) (shift_entry at entry)) }
     ensures value { result.now ≡ bytes_at buffer.now (shift_entry at entry) }
     ensures len { length result.now ≡ native_size entry.kind }
@@ -74,7 +74,7 @@ fn append_copy(
     at: i128,
     buffer: &[u8],
 ) -> Result<(), NoMemory>
-    requires near { IsNear at }
+    requires near { IsPlace at }
     requires inside { IsTrue (are_inside (length buffer.now) (shift at (entries_of ty.now))) }
     ensures { OnOk result (out.new.items ≡ out.old.items ++ packed rep (shift at (entries_of ty.now)) buffer.now) }
 {
@@ -94,7 +94,7 @@ fn copies_with_elements(ty: &Datatype, count: u32) -> u32
 }
 
 /// So many bytes there is room for at first.
-const FIRST_ROOM: u128 = 1_048_576;
+const FIRST_ROOM: u128 = 1 << 20;
 
 /// The room that is taken at first for the packed bytes of an operation: all of it, up to a limit.
 fn first_room(ty: &Datatype, rep: Rep, count: u32) -> usize {
@@ -115,7 +115,7 @@ pub fn packed_bytes(
     ensures { IfOk result (λ bytes. bytes.items ≡ packed rep (elements (typemap_of ty.now) count origin) buffer.now) }
 {
     let mut bytes = Vec::with_capacity(alloc, first_room(ty, rep, count))?;
-    let extent = extent(ty);
+    let extent = ty.extent();
     'copies: for copy in 0..copies_with_elements(ty, count) {
         append_copy(&mut bytes, ty, rep, copy_at(origin, copy, extent), buffer)?;
     }

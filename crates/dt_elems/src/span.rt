@@ -4,7 +4,7 @@ ghost use Rattle.dt_map.specs.Elements.{elements, are_inside};
 ghost use Rattle.dt_map.specs.Packed.{total};
 ghost use Rattle.dt_type.specs.Datatype.{typemap_of, entries_of};
 
-use crate::place::{copy_at, extent};
+use crate::place::copy_at;
 use dt_kinds::Rep;
 use dt_type::Datatype;
 
@@ -30,7 +30,7 @@ fn copies_inside(ty: &Datatype, last: u32, origin: i64, len: usize) -> bool
 {
     let bounds = ty.bounds();
     let first = i128::from(origin);
-    let last = copy_at(origin, last, extent(ty));
+    let last = copy_at(origin, last, ty.extent());
     let low = i128::from(bounds.true_lb) + first.min(last);
     let high = i128::from(bounds.true_ub) + first.max(last);
     lies_within(low, high, len)

@@ -1,5 +1,5 @@
 //! The bounds of a typemap, and of a list of entries in one pass.
-ghost use Rattle.std.specs.Prelude.{◌≡◌, ◌<◌, ◌^◌, length};
+ghost use Rattle.std.specs.Prelude.{◌≡◌, ◌<◌, ◌^◌, ◌-ℤ◌, length};
 ghost use Rattle.std.specs.List.{All};
 ghost use Rattle.dt_kinds.specs.Displacement.{FitsDisp};
 ghost use Rattle.dt_map.specs.Bounds.{bounds_of};
@@ -25,6 +25,15 @@ pub struct Bounds {
     pub true_ub: i64,
     pub lb: i64,
     pub ub: i64,
+}
+
+impl Bounds {
+    /// From the lower to the upper bound in bytes, negative where the upper one is less.
+    pub fn extent(&self) -> i128
+        ensures { result ≡ self.now.ub -ℤ self.now.lb }
+    {
+        i128::from(self.ub) - i128::from(self.lb)
+    }
 }
 
 /// The bounds of a typemap without marks.

@@ -1,3 +1,5 @@
+//! Why a registry does nothing.
+
 use thiserror::Error;
 
 /// Why a registry takes no more datatypes.

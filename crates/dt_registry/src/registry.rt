@@ -1,10 +1,11 @@
+//! Datatypes under handles.
 ghost use Rattle.std.specs.Prelude.{◌≡◌, ◌+◌, ◌<◌, ◌↔◌, ◌||◌, ◌^◌, ◌-◌, IsTrue, IsSome, IfOk, OnOk, OnErr, IsErrOf, Some, None};
 ghost use Rattle.std.specs.Option.{option_copied};
 ghost use Rattle.dt_type.specs.Basic.{is_basic};
 ghost use Rattle.dt_registry.specs.Registry.{first_registry, live_at, type_at, flag_at, committed_at, live_count, is_basic_at, AreEarlier, Makes, Sets};
 
 use crate::fault::{AddFault, HandleFault};
-use dt_type::{Datatype, FormOf};
+use dt_type::Datatype;
 use slab::Slab;
 use std::alloc::Global;
 use std::marker::Model;
@@ -43,15 +44,7 @@ impl Model for Registry {
 
     ghost view = { λ r. record { made = r.made; slots = r.slots.slots } };
 
-
     ghost invariant = { λ r. HoldsEarlier r.made r.slots.slots };
-}
-
-/// Whether a datatype is basic.
-fn is_basic(ty: &Datatype) -> bool
-    ensures { result ≡ is_basic ty.now }
-{
-    matches!(ty.form(), FormOf::Named(_))
 }
 
 impl Registry {
@@ -77,7 +70,7 @@ impl Registry {
             return Err(AddFault::Spent);
         }
         let serial = self.made;
-        let committed = is_basic(&ty) || committed;
+        let committed = ty.is_basic() || committed;
         let live = Live {
             serial,
             ty,
@@ -165,7 +158,7 @@ impl Registry {
         let Some(ty) = self.get(h) else {
             return Err(HandleFault::Stale);
         };
-        if is_basic(ty) {
+        if ty.is_basic() {
             return Err(HandleFault::Basic);
         }
         match self.slots.try_remove(h.slot) {

@@ -1,3 +1,4 @@
+//! Why a command is refused: its number and its word.
 ghost use Rattle.std.specs.Prelude.{◌≡◌};
 ghost use Rattle.dt_reply.specs.Refusal.{number_of, word_of};
 

@@ -1,5 +1,5 @@
 //! The words of a line, appended one after another.
-ghost use Rattle.std.specs.Prelude.{◌≡◌, ◌++◌, ◌-ℤ◌, OnOk, flat_map, map};
+ghost use Rattle.std.specs.Prelude.{◌≡◌, ◌++◌, OnOk, flat_map, map};
 ghost use Rattle.hex.specs.Hex.{encode_lower};
 ghost use Rattle.dt_reply.specs.Reply.{committed_words, entry_word, extent_words, hex_text, marks_words, sizes_words, spaced, true_bounds_words, yes_or_no};
 
@@ -73,13 +73,6 @@ pub(crate) fn push_sizes(out: &mut Vec<u8>, bounds: Bounds) -> Result<(), NoMemo
     push_field(out, b"align", bounds.align)
 }
 
-/// From the lower to the upper bound, in bytes.
-fn extent(bounds: Bounds) -> i128
-    ensures { result ≡ bounds.ub -ℤ bounds.lb }
-{
-    i128::from(bounds.ub) - i128::from(bounds.lb)
-}
-
 /// Appends the bounds and the extent.
 #[tactic(auto, unfolding(crate::specs::Reply::extent_words))]
 pub(crate) fn push_extent(out: &mut Vec<u8>, bounds: Bounds) -> Result<(), NoMemory>
@@ -87,7 +80,7 @@ pub(crate) fn push_extent(out: &mut Vec<u8>, bounds: Bounds) -> Result<(), NoMem
 {
     push_field(out, b"lb", bounds.lb)?;
     push_field(out, b"ub", bounds.ub)?;
-    push_field(out, b"extent", extent(bounds))
+    push_field(out, b"extent", bounds.extent())
 }
 
 /// Appends the true bounds.

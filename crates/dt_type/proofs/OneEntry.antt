@@ -9,9 +9,9 @@ use Rattle.dt_map.specs.Bounds.{bounds_of}
 use Rattle.dt_form.specs.declared.form.FormOf.TheVariants.{Named}
 use Rattle.dt_type.specs.Form.{map_by}
 
-abbrev pub bounds_from : ℕ → ℕ → Bounds
-bounds_from size external = record { size = size; ext_size = external; elements = 1; align = size; true_lb = pos 0; true_ub = pos size; lb = pos 0; ub = pos size }
+abbrev pub bounds_at_zero : ℕ → ℕ → Bounds
+bounds_at_zero size external = record { size = size; ext_size = external; elements = 1; align = size; true_lb = pos 0; true_ub = pos size; lb = pos 0; ub = pos size }
 
-pub bounds_of_one : (kind : Kind) → bounds_from (native_size kind) (external_size kind) ≡ bounds_of (map_by (Named kind))
+pub bounds_of_one : (kind : Kind) → bounds_at_zero (native_size kind) (external_size kind) ≡ bounds_of (map_by (Named kind))
 bounds_of_one Byte = refl
 bounds_of_one _ = refl

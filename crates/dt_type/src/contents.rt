@@ -6,6 +6,7 @@ ghost use Rattle.dt_type.specs.Contents.{AreContents};
 
 use crate::datatype::{Contents, Datatype, Form};
 use crate::fault::ContentsFault;
+use crate::limits::WEIGHT_MAX;
 use dt_form::ContentsOf;
 use dt_kinds::NoMemory;
 use sqlite_items::Items;
@@ -24,7 +25,7 @@ fn types(alloc: Global, form: &Form) -> Result<Items<Datatype>, NoMemory>
 
 /// All three lists of a form.
 fn contents_by(alloc: Global, form: &Form) -> Result<Contents, NoMemory>
-    requires { items_of form.now < 65536 }
+    requires { items_of form.now < WEIGHT_MAX }
     ensures { IfOk result (λ contents. contents ≡ contents_of form.now) }
 {
     Ok(ContentsOf {

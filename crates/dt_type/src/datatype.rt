@@ -134,8 +134,7 @@ impl Datatype {
         ensures value { result ≡ extent_of (typemap_of self.now) }
         ensures small { nat_abs result ≤ 2 ^ 61 }
     {
-        let bounds = self.bounds();
-        i128::from(bounds.ub) - i128::from(bounds.lb)
+        self.bounds().extent()
     }
 
     /// Whether no constructor made the datatype (MPI 4.1, section 3.2.2).
