@@ -1,7 +1,9 @@
 pub mod Array
 pub mod Command
+pub mod Form
 pub mod Forms
 pub mod Hex
+pub mod Item
 pub mod Line
 pub mod Name
 pub mod Number

@@ -5,6 +5,7 @@ mod array;
 mod bytes;
 pub mod command;
 mod ctors;
+mod fields;
 mod forms;
 mod item;
 pub mod laws;
