@@ -14,21 +14,6 @@ use Rattle.dt_type.specs.declared.form.FormOf.TheVariants as form
 use Rattle.dt_type.specs.declared.form.PartOf.{PartOf}
 use Rattle.dt_machine.specs.State.{State, type_of, old_of}
 
--- whether a test holds of some word that names an old type
-abbrev pub any_old : (List ℕ → Bool) → Ctor → Bool
-any_old test (Contiguous count old) = test old
-any_old test (Vector count block stride old) = test old
-any_old test (Hvector count block stride old) = test old
-any_old test (Indexed old blocks) = test old
-any_old test (Hindexed old blocks) = test old
-any_old test (IndexedBlock old block disps) = test old
-any_old test (HindexedBlock old block disps) = test old
-any_old test (Struct parts) = list_any (λ p. test p.old) parts
-any_old test (Resized lb extent old) = test old
-any_old test (Dup old) = test old
-any_old test (Subarray order old dims) = test old
-any_old test (Darray size rank order old dims) = test old
-
 -- a part with its old type, and such parts; none where one doesn't stand
 abbrev pub part_in : State → NamedPart → Option (PartOf Seen)
 part_in s p = option_map (λ old. record { len = p.len; disp = p.disp; old = old }) (old_of s p.old)

@@ -4,6 +4,7 @@ pub mod CommandLemmas
 pub mod CtorLemmas
 pub mod CutLemmas
 pub mod FormLemmas
+pub mod InputLemmas
 pub mod ItemLemmas
 pub mod LineLemmas
 pub mod ReadingLemmas

@@ -5,7 +5,9 @@ pub mod Forms
 pub mod Hex
 pub mod Item
 pub mod Line
+pub mod Lines
 pub mod Name
 pub mod Number
+pub mod Olds
 pub mod Reading
 pub mod Words

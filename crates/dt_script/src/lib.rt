@@ -10,12 +10,14 @@ mod forms;
 mod item;
 pub mod laws;
 pub mod line;
+pub mod lines;
 pub mod name;
 mod number;
 mod reading;
 mod words;
 
 pub use bytes::Bytes;
-pub use command::{Command, Ctor, Fill, NamedPart};
+pub use command::{Command, Ctor, Fill, NamedPart, WordTest};
 pub use line::{LineFault, parse_line};
+pub use lines::first_line;
 pub use name::Name;

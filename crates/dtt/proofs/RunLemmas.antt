@@ -7,7 +7,8 @@ use Rattle.std.proofs.lemmas.List.{append-nil}
 use Rattle.std.proofs.lemmas.List.Folds.{list_all-append}
 use Rattle.std.specs.Io.KnownBytes.{Appends}
 use Rattle.dt_base.specs.Transfer.{AppendsFront}
-use Rattle.dt_machine.specs.Answers.{Run, Answers, script_lines, text_of_all, are_accepted}
+use Rattle.dt_machine.specs.Answers.{Run, Answers, text_of_all, are_accepted}
+use Rattle.dt_script.specs.Lines.{script_lines}
 use Rattle.dt_machine.specs.Reply.{Reply, text_of, is_accepted, Gives, Responds}
 use Rattle.dt_machine.specs.State.{State, first_state}
 use Rattle.dt_machine.specs.Step.{Step}

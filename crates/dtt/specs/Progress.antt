@@ -1,7 +1,8 @@
 -- How far a run has come. No public clause cites this module.
 use Rattle.std.specs.Prelude.{◌≡◌, ℕ, Bool, List, ◌++◌, Option}
 use Rattle.std.specs.Io.KnownBytes.{Appends}
-use Rattle.dt_machine.specs.Answers.{Run, script_lines, text_of_all, are_accepted}
+use Rattle.dt_machine.specs.Answers.{Run, text_of_all, are_accepted}
+use Rattle.dt_script.specs.Lines.{script_lines}
 use Rattle.dt_machine.specs.Reply.{Reply}
 use Rattle.dt_machine.specs.State.{State, first_state}
 

@@ -3,7 +3,8 @@ use Rattle.std.specs.Prelude.{◌≡◌, ℕ, ◌≤◌, Bool, true, false, List
 use Rattle.std.specs.Io.KnownBytes.{Appends}
 use Rattle.std.specs.Str.{bytes_eq}
 use Rattle.dt_base.specs.Counter.{counted}
-use Rattle.dt_machine.specs.Answers.{Run, Answers, script_lines, text_of_all}
+use Rattle.dt_machine.specs.Answers.{Run, Answers, text_of_all}
+use Rattle.dt_script.specs.Lines.{script_lines}
 use Rattle.dt_machine.specs.Reply.{Reply}
 use Rattle.dt_machine.specs.State.{State, first_state}
 use Rattle.dtt.specs.declared.status.Status.{Status}

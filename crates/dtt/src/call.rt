@@ -4,10 +4,10 @@ ghost use Rattle.std.specs.Io.KnownBytes.{Appends};
 ghost use Rattle.dt_base.specs.Counter.{Rose};
 ghost use Rattle.dtt.specs.Result.{IsAnswer, IsCutShort, IsAnswerOrNoMemory, IsResult, IsFront, Told, IsUnwritten, Holds, TookTooMany, EndsWithinLimit, Wrote, is_run};
 
-use crate::lines::first_line;
 use crate::status::Status;
 use dt_base::{READ_MAX, ReadEnd, Sink, Source, read_all, write_all};
 use dt_machine::Machine;
+use dt_script::first_line;
 use std::alloc::Global;
 
 /// Runs the lines of an input, and writes the reply to each before the next one is taken.

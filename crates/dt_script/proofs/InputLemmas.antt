@@ -1,7 +1,7 @@
 -- The first line of an input ends at its first line feed.
 use Rattle.std.proofs.Common.{◌≡◌, ◌≢◌, ℕ, suc, ◌+◌, ◌<◌, ◌==◌, Bool, true, false, cond, not, List, [], ◌∷◌, length, take, drop, refl, ap, sym, subst, ◌∙◌, arith}
 use Rattle.std.specs.List.{position_or_len}
-use Rattle.dt_machine.specs.Answers.{onto_first_line, raw_lines}
+use Rattle.dt_script.specs.Lines.{onto_first_line, raw_lines}
 
 abbrev length_to_feed : List ℕ → ℕ
 length_to_feed bytes = position_or_len (λ b. b == 10) bytes

@@ -1,19 +1,18 @@
 //! The lines of an input, one after another.
-ghost use Rattle.std.specs.Prelude.{◌≡◌, ◌≢◌, ◌<◌, ◌≤◌, ◌==◌, [], ◌∷◌, List, length};
-ghost use Rattle.dt_machine.specs.Answers.{raw_lines, without_return, script_lines};
-ghost use Rattle.std.specs.List.{position_or_len};
+ghost use Rattle.std.specs.Prelude.{◌≡◌, ◌≢◌, ◌<◌, ◌==◌, [], ◌∷◌, length};
+ghost use Rattle.dt_script.specs.Lines.{raw_lines, without_return, script_lines};
 
-/// How many bytes stand before the first line feed.
-fn line_len(bytes: &[u8]) -> usize
-    ensures exact { position_or_len (λ b. b == 10) bytes.now ≡ result }
-    ensures fits { result ≤ length bytes.now }
-{
-    for (i, b) in bytes.iter().enumerate() {
-        if *b == 10 {
-            return i;
-        }
+use crate::words::{Ends, len_before};
+
+/// A line feed ends a line.
+struct LineFeed;
+
+impl Ends for LineFeed {
+    ghost ends = { λ b. b == 10 };
+
+    fn ends(b: u8) -> bool {
+        b == b'\n'
     }
-    bytes.len()
 }
 
 /// A line without the one carriage return at its end.
@@ -33,7 +32,7 @@ fn raw_line(bytes: &[u8]) -> (&[u8], &[u8])
     ensures lines { raw_lines bytes.now ≡ result.0.now ∷ raw_lines result.1.now }
     ensures shorter { length result.1.now < length bytes.now }
 {
-    let (line, rest) = bytes.split_at(line_len(bytes));
+    let (line, rest) = bytes.split_at(len_before::<LineFeed>(bytes));
     match rest.split_first() {
         Some((_, after)) => (line, after),
         None => (line, rest),
@@ -41,7 +40,7 @@ fn raw_line(bytes: &[u8]) -> (&[u8], &[u8])
 }
 
 /// The first line of an input, and the bytes after it.
-pub(crate) fn first_line(bytes: &[u8]) -> (&[u8], &[u8])
+pub fn first_line(bytes: &[u8]) -> (&[u8], &[u8])
     requires { bytes.now ≢ [] }
     ensures lines { script_lines bytes.now ≡ result.0.now ∷ script_lines result.1.now }
     ensures shorter { length result.1.now < length bytes.now }
