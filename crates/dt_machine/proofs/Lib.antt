@@ -1,9 +1,9 @@
 pub mod Definitions
 pub mod Fills
-pub mod Least
 pub mod Lines
 pub mod NamedTypes
 pub mod Operations
 pub mod Outcomes
+pub mod Rows
 pub mod Standing
 pub mod TypeWords

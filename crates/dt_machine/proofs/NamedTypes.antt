@@ -1,11 +1,12 @@
--- Refusals of commands on names of types: by rising number, those whose conditions don't hold.
-use Rattle.std.proofs.Common.{◌≡◌, Bool, ℕ, ◌<◌, ℤ, true, false, List, Option, Some, None, Result, Ok, Err, cond, inl, inr, refl, sym, ap, ◌∙◌, arith}
+-- Refusals of commands on names of types: the first condition that holds.
+use Rattle.std.proofs.Common.{◌≡◌, Bool, ℕ, ◌<◌, ℤ, true, false, List, [], ◌∷◌, Option, Some, None, Result, Ok, Err, cond, IsTrue, inl, inr, refl, sym, ap, ◌∙◌, arith}
 use Rattle.std.proofs.lemmas.Bool.{cases_lt, false_from_ne_true, or_parts}
 use Rattle.std.specs.Option.{is_none, is_some, option_map, option_map_or}
 use Rattle.std.specs.Result.{result_ok, is_ok}
 use Rattle.dt_kinds.specs.declared.kind.Kind.{Kind}
 use Rattle.dt_kinds.specs.declared.kind.KindFault.{KindFault}
 use Rattle.dt_kinds.specs.Name.{kind_of, is_left_out}
+use Rattle.dt_reply.specs.declared.refusal.Refusal.{Refusal}
 use Rattle.dt_reply.specs.declared.refusal.Refusal.TheVariants as refusal
 use Rattle.dt_reply.specs.Reply.{Done}
 use Rattle.dt_script.specs.declared.command.Command.TheVariants.{Child, Commit, Free}
@@ -17,14 +18,17 @@ use Rattle.dt_type.specs.Contents.{old_at}
 use Rattle.dt_type.specs.Datatype.{form_of}
 use Rattle.dt_type.specs.Form.{olds_of, result_of}
 use Rattle.dt_machine.specs.declared.outcome.Change.TheVariants as change
+use Rattle.dt_machine.specs.declared.outcome.Stop.{Stop}
+use Rattle.dt_machine.specs.declared.outcome.Stop.TheVariants.{Refused, NoMemory}
 use Rattle.dt_machine.specs.declared.state.Kept.{Kept}
-use Rattle.dt_machine.specs.Outcome.{CanChange, IsFreeFor, changed}
-use Rattle.dt_machine.specs.Refusal.{IsRefusedBy, IsAllowed, LacksChild, NoMoreTypes}
+use Rattle.dt_machine.specs.Outcome.{CanChange, IsMissing, IsStop, changed}
+use Rattle.dt_machine.specs.Refusal.{new_type_row, conditions, IsRefusedBy, IsAllowed, LacksChild, NoMoreTypes}
+use Rattle.dt_machine.specs.Row.{◌when◌, IsFirst, IsClear}
 use Rattle.dt_machine.specs.State.{State, under, basic, type_of, is_unknown, is_basic_word, is_type_taken, counted}
 use Rattle.dt_machine.specs.Step.{Performs}
-use Rattle.dt_machine.proofs.Least.{IsClear, clear, allowed, contrary}
+use Rattle.dt_machine.proofs.Rows.{refused, allowed, behind_three, first_front, contrary, some_and, and_some}
 use Rattle.dt_machine.proofs.Operations.{basic_by}
-use Rattle.dt_machine.proofs.TypeWords.{plain_unknown, stands_known, stands_supported}
+use Rattle.dt_machine.proofs.TypeWords.{missing, only_memory, stands, is_known, is_supported, plain_unknown}
 
 -- a basic type is basic
 named_is_basic : (kind : Kind) → is_basic (result_of (Named kind)) ≡ true
@@ -69,13 +73,11 @@ can_make s more =
     elim (cases_lt s.made 18446744073709551615) [ inl lt ↦ lt | inr le ↦ absurd (more (inr le)) ]
 
 -- `commit TYPE`
-commit_clear : (s : State) (ty : List ℕ) (n : ℕ) → (2 < n → is_unknown s ty ≡ false) → (4 < n → is_left_out ty ≡ false) → IsClear s (Commit ty) n
-commit_clear s ty n known supported =
-    clear s (Commit ty) n (λ _ h. h) (λ lt. contrary (is_unknown s ty) (known lt)) (λ _ h. h) (λ lt. contrary (is_left_out ty) (supported lt))
-    (λ _ h. h) (λ _ h. h) (λ _ h. h) (λ _ h. h) (λ _ h. h) (λ _ h. h) (λ _ h. h) (λ _ h. h) (λ _ h. h) (λ _ h. h) (λ _ h. h)
+pub commit_missing : (s : State) (ty : List ℕ) (stop : Stop) → IsMissing s ty stop → IsStop s (Commit ty) stop
+commit_missing s ty = missing s ty (Commit ty) [] (λ _ first. first)
 
 pub commit_allowed : (s : State) (ty : List ℕ) (kept : Kept) → type_of s ty ≡ Some kept → IsAllowed s (Commit ty)
-commit_allowed s ty kept is = allowed s (Commit ty) (commit_clear s ty 18 (λ _. stands_known s ty kept is) (λ _. stands_supported s ty kept is))
+commit_allowed s ty kept is = allowed s (Commit ty) (is_known s ty kept is, (is_supported s ty kept is, tt))
 
 pub commit_basic : (s : State) (ty : List ℕ) (kept : Kept) → type_of s ty ≡ Some kept → begins_with_mpi ty ≡ true
     → Performs (Commit ty) s Done (counted (changed change.Nothing s))
@@ -88,19 +90,15 @@ commit_plain s ty kept is plain =
     (rw stands refl, (kept, is, refl, rw (plain, stands) refl))
 
 -- `free TYPE`
-free_clear : (s : State) (ty : List ℕ) (n : ℕ) → (2 < n → is_unknown s ty ≡ false) → (4 < n → is_left_out ty ≡ false)
-    → (6 < n → is_basic_word s ty ≡ false) → IsClear s (Free ty) n
-free_clear s ty n known supported derived =
-    clear s (Free ty) n (λ _ h. h) (λ lt. contrary (is_unknown s ty) (known lt)) (λ _ h. h) (λ lt. contrary (is_left_out ty) (supported lt))
-    (λ lt. contrary (is_basic_word s ty) (derived lt)) (λ _ h. h) (λ _ h. h) (λ _ h. h) (λ _ h. h) (λ _ h. h) (λ _ h. h) (λ _ h. h) (λ _ h. h) (λ _ h. h) (λ _ h. h)
+pub free_missing : (s : State) (ty : List ℕ) (stop : Stop) → IsMissing s ty stop → IsStop s (Free ty) stop
+free_missing s ty = missing s ty (Free ty) (refusal.BasicType when IsTrue (is_basic_word s ty) ∷ []) (λ _ first. first)
 
 pub free_basic : (s : State) (ty : List ℕ) (kept : Kept) → type_of s ty ≡ Some kept → is_basic_word s ty ≡ true → IsRefusedBy s (Free ty) refusal.BasicType
-free_basic s ty kept is basic =
-    (basic, free_clear s ty 6 (λ _. stands_known s ty kept is) (λ _. stands_supported s ty kept is) (λ lt. absurd (omega (arith, lt))))
+free_basic s ty kept is basic = refused s (Free ty) refusal.BasicType (is_known s ty kept is, (is_supported s ty kept is, basic))
 
 pub free_allowed : (s : State) (ty : List ℕ) (kept : Kept) → type_of s ty ≡ Some kept → is_basic_word s ty ≡ false → IsAllowed s (Free ty)
 free_allowed s ty kept is derived =
-    allowed s (Free ty) (free_clear s ty 18 (λ _. stands_known s ty kept is) (λ _. stands_supported s ty kept is) (λ _. derived))
+    allowed s (Free ty) (is_known s ty kept is, (is_supported s ty kept is, (contrary (is_basic_word s ty) derived, tt)))
 
 -- a reserved word that stands is basic, so a word that isn't is looked up
 derived_plain : (s : State) (ty : List ℕ) (kept : Kept) → type_of s ty ≡ Some kept → is_basic_word s ty ≡ false → begins_with_mpi ty ≡ false
@@ -113,36 +111,59 @@ pub free_can : (s : State) (ty : List ℕ) (kept : Kept) → type_of s ty ≡ So
 free_can s ty kept is derived other stands =
     sym (basic_by s ty other (plain_under s ty (derived_plain s ty kept is derived) ∙ stands)) ∙ derived
 
+-- the names of a new type say nothing against it
+module _ (s : State) (name : List ℕ) (unknown left_out : Bool) (names : IsClear (new_type_row s name unknown left_out [])) where
+  pub names_known : unknown ≡ false
+  names_known = false_from_ne_true unknown names.0
+
+  pub names_free : is_type_taken s name ≡ false
+  names_free = false_from_ne_true (is_type_taken s name) names.1.0
+
+  pub names_supported : left_out ≡ false
+  names_supported = false_from_ne_true left_out names.1.1.0
+
 -- `child NAME = TYPE INT`
-module _ (s : State) (name ty : List ℕ) (k : ℤ) (names : IsFreeFor s name ty) (kept : Kept) (is : type_of s ty ≡ Some kept) where
-  child_clear : (n : ℕ) → (7 < n → is_basic_word s ty ≡ false) → (8 < n → ¬ LacksChild s ty k) → (13 < n → ¬ NoMoreTypes s) → IsClear s (Child name ty k) n
-  child_clear n derived stands more =
-      clear s (Child name ty k) n (λ _ h. h) (λ _. contrary (is_unknown s ty) names.known) (λ _. contrary (is_type_taken s name) names.free)
-      (λ _. contrary (is_left_out ty) names.supported) (λ _ h. h) (λ lt. contrary (is_basic_word s ty) (derived lt)) stands
-      (λ _ h. h) (λ _ h. h) (λ _ h. h) (λ _ h. h) more (λ _ h. h) (λ _ h. h) (λ _ h. h)
+pub child_names : (s : State) (name ty : List ℕ) (k : ℤ) (refusal : Refusal) → IsFirst (new_type_row s name (is_unknown s ty) (is_left_out ty) []) refusal
+    → IsRefusedBy s (Child name ty k) refusal
+child_names s name ty k refusal first = refused s (Child name ty k) refusal (first_front (new_type_row s name (is_unknown s ty) (is_left_out ty) []) (behind_three (conditions s (Child name ty k))) refusal first)
+
+-- where the names say nothing against it, memory alone can be wanting of the type
+pub child_missing : (s : State) (name ty : List ℕ) (k : ℤ) → IsClear (new_type_row s name (is_unknown s ty) (is_left_out ty) []) → (stop : Stop)
+    → IsMissing s ty stop → IsStop s (Child name ty k) stop
+child_missing s name ty k names (Refused refusal) is =
+    absurd (only_memory s ty (stands s ty (names_known s name (is_unknown s ty) (is_left_out ty) names) (names_supported s name (is_unknown s ty) (is_left_out ty) names)) refusal is)
+child_missing s name ty k names NoMemory is = tt
+
+module _ (s : State) (name ty : List ℕ) (k : ℤ) (names : IsClear (new_type_row s name (is_unknown s ty) (is_left_out ty) [])) (kept : Kept)
+    (is : type_of s ty ≡ Some kept) where
+  abbrev Lacks : Kept → Type 0
+  Lacks kept = (is_basic kept.ty ≡ false) × (old_at (olds_of (form_of kept.ty)) k ≡ None)
+
+  derived_word : is_basic kept.ty ≡ false → ¬ IsTrue (is_basic_word s ty)
+  derived_word derived = contrary (is_basic_word s ty) (basic_by s ty kept is ∙ derived)
 
   pub child_named : is_basic kept.ty ≡ true → IsRefusedBy s (Child name ty k) refusal.NamedType
-  child_named basic = (basic_by s ty kept is ∙ basic, child_clear 7 (λ lt. absurd (omega (arith, lt))) (λ lt. absurd (omega (arith, lt))) (λ lt. absurd (omega (arith, lt))))
+  child_named basic = refused s (Child name ty k) refusal.NamedType (names.0, (names.1.0, (names.1.1.0, basic_by s ty kept is ∙ basic)))
 
   pub child_lacks : is_basic kept.ty ≡ false → old_at (olds_of (form_of kept.ty)) k ≡ None → IsRefusedBy s (Child name ty k) refusal.NoSuchChild
   child_lacks derived none =
-      ((kept, is, derived, none), child_clear 8 (λ _. basic_by s ty kept is ∙ derived) (λ lt. absurd (omega (arith, lt))) (λ lt. absurd (omega (arith, lt))))
+      refused s (Child name ty k) refusal.NoSuchChild
+      (names.0, (names.1.0, (names.1.1.0, (derived_word derived, some_and (type_of s ty) Lacks kept is (derived, none)))))
 
   has_child : (old : Seen) → old_at (olds_of (form_of kept.ty)) k ≡ Some old → ¬ LacksChild s ty k
-  has_child old at (other, same, derived, none) =
-      let both : Some other ≡ Some kept = sym same ∙ is in
-      let one : other ≡ kept = cc in
-      let apart : None ≡ Some old = sym none ∙ (ap (λ x. old_at (olds_of (form_of x.ty)) k) one ∙ at) in cc
+  has_child old at lacks = let (derived, none) = and_some (type_of s ty) Lacks kept is lacks in let apart : None ≡ Some old = sym none ∙ at in cc
 
   pub child_many : (old : Seen) → is_basic kept.ty ≡ false → old_at (olds_of (form_of kept.ty)) k ≡ Some old → NoMoreTypes s
       → IsRefusedBy s (Child name ty k) refusal.TooManyNames
-  child_many old derived at many = (many, child_clear 13 (λ _. basic_by s ty kept is ∙ derived) (λ _. has_child old at) (λ lt. absurd (omega (arith, lt))))
+  child_many old derived at many =
+      refused s (Child name ty k) refusal.TooManyNames (names.0, (names.1.0, (names.1.1.0, (derived_word derived, (has_child old at, many)))))
 
   pub child_allowed : (old : Seen) → is_basic kept.ty ≡ false → old_at (olds_of (form_of kept.ty)) k ≡ Some old → (¬ NoMoreTypes s) → IsAllowed s (Child name ty k)
-  child_allowed old derived at more = allowed s (Child name ty k) (child_clear 18 (λ _. basic_by s ty kept is ∙ derived) (λ _. has_child old at) (λ _. more))
+  child_allowed old derived at more =
+      allowed s (Child name ty k) (names.0, (names.1.0, (names.1.1.0, (derived_word derived, (has_child old at, (more, tt))))))
 
   pub child_can : (old : Seen) → (¬ NoMoreTypes s) → CanChange (change.AddType name (record { ty = old; committed = is_basic old })) s
-  child_can old more = (free_under s name names.free, can_make s more, λ basic. basic)
+  child_can old more = (free_under s name (names_free s name (is_unknown s ty) (is_left_out ty) names), can_make s more, λ basic. basic)
 
 -- a name is the word that it was made of
 picked : (test : Bool) (word name : List ℕ) → Some name ≡ cond test (Some word) None → name ≡ word

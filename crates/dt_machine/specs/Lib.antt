@@ -1,9 +1,12 @@
 pub mod Answers
 pub mod Find
+pub mod Laws
+pub mod Limits
 pub mod Made
 pub mod Operation
 pub mod Outcome
 pub mod Refusal
+pub mod Row
 pub mod Standing
 pub mod State
 pub mod Step

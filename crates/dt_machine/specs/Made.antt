@@ -1,6 +1,5 @@
 -- What a constructor of a script makes of the types that stand.
-use Rattle.std.specs.Prelude.{◌≡◌, ℕ, Bool, false, List, [], ◌∷◌, Option, Some, Result, Ok, Err}
-use Rattle.std.specs.List.{list_any}
+use Rattle.std.specs.Prelude.{◌≡◌, Bool, false, List, [], ◌∷◌, Option, Some, Result, Ok, Err}
 use Rattle.std.specs.Option.{option_map, option_and_then, option_map_or}
 use Rattle.dt_ctor.specs.Answer.{IsMade, IsCause}
 use Rattle.dt_script.specs.declared.command.Ctor.{Ctor}

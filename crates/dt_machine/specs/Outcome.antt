@@ -5,7 +5,6 @@ use Rattle.dt_reply.specs.declared.refusal.Refusal.{Refusal}
 use Rattle.dt_reply.specs.declared.refusal.Refusal.TheVariants as refusal
 use Rattle.dt_reply.specs.Reply.{Reply, Done, text_of, is_accepted}
 use Rattle.dt_script.specs.declared.command.Command.{Command}
-use Rattle.dt_script.specs.declared.command.Ctor.{Ctor}
 use Rattle.dt_type.specs.Basic.{is_basic}
 use Rattle.dt_type.specs.declared.fault.CtorFault.{CtorFault}
 use Rattle.dt_type.specs.declared.fault.CtorFault.TheVariants as fault
@@ -15,9 +14,8 @@ use Rattle.dt_machine.specs.declared.outcome.Outcome.{Outcome}
 use Rattle.dt_machine.specs.declared.outcome.Stop.{Stop}
 use Rattle.dt_machine.specs.declared.outcome.Stop.TheVariants.{Refused, NoMemory}
 use Rattle.dt_machine.specs.declared.state.Kept.{Kept}
-use Rattle.dt_machine.specs.Made.{any_old}
 use Rattle.dt_machine.specs.Refusal.{IsRefusedBy, IsAllowed}
-use Rattle.dt_machine.specs.State.{State, under, is_unknown, is_type_taken, with_type, with_committed, without_type, with_buffer, counted}
+use Rattle.dt_machine.specs.State.{State, under, is_unknown, with_type, with_committed, without_type, with_buffer, counted}
 use Rattle.dt_machine.specs.Step.{Performs}
 
 -- where a name stands for a type, the state with this type committed
@@ -66,12 +64,6 @@ IsMissing s word (Refused refusal.UnsupportedKind) = IsTrue (is_left_out word)
 IsMissing s word NoMemory = Unit {0}
 IsMissing s word stop = ⊥
 
--- the names of a new type say nothing against it
-pub record AreFree (s : State) (name : List ℕ) (ctor : Ctor) : Type 0 where
-  pub known : any_old (is_unknown s) ctor ≡ false
-  pub free : is_type_taken s name ≡ false
-  pub supported : any_old is_left_out ctor ≡ false
-
 -- the reply `ok`, with a change
 pub record IsDone (made : Change) (o : Outcome) : Type 0 where
   pub line : o.line.items ≡ text_of Done
@@ -89,15 +81,3 @@ stop_by fault.Overflow = Refused refusal.Overflow
 stop_by fault.TooDeep = Refused refusal.TooDeep
 stop_by fault.TooHeavy = Refused refusal.TooHeavy
 stop_by fault.NoMemory = NoMemory
-
--- the names of a child say nothing against it; and the first that does
-pub record IsFreeFor (s : State) (name ty : List ℕ) : Type 0 where
-  pub known : is_unknown s ty ≡ false
-  pub free : is_type_taken s name ≡ false
-  pub supported : is_left_out ty ≡ false
-
-abbrev pub IsTakenFor : State → List ℕ → List ℕ → Refusal → Type 0
-IsTakenFor s name ty refusal.UnknownName = is_unknown s ty ≡ true
-IsTakenFor s name ty refusal.NameTaken = (is_unknown s ty ≡ false) × (is_type_taken s name ≡ true)
-IsTakenFor s name ty refusal.UnsupportedKind = (is_unknown s ty ≡ false) × (is_type_taken s name ≡ false) × (is_left_out ty ≡ true)
-IsTakenFor s name ty other = ⊥

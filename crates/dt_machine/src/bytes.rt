@@ -1,9 +1,11 @@
 //! `bytes REP COUNT TYPE BUFFER ORIGIN`
 ghost use Rattle.std.specs.Prelude.{MatchOption};
-ghost use Rattle.dt_machine.specs.Operation.{IsPrinted, IsWithheld};
+ghost use Rattle.dt_machine.specs.Operation.{operation_row};
 ghost use Rattle.dt_machine.specs.Outcome.{ComesTo};
+ghost use Rattle.dt_machine.specs.Row.{IsFirst, IsClear};
 ghost use Rattle.dt_script.specs.declared.command.Command.TheVariants.{Bytes};
 
+use crate::limits::MOST_PACKED;
 use crate::machine::Machine;
 use crate::outcome::{Outcome, Stop, told};
 use dt_elems::{packed_bytes, packed_size, span_inside};
@@ -11,9 +13,6 @@ use dt_kinds::Rep;
 use dt_reply::{Refusal, packed_line};
 use dt_script::Name;
 use dt_type::Datatype;
-
-/// So many packed bytes `bytes` prints.
-const MOST_PACKED: u128 = 16_777_216;
 
 /// Why the packed bytes of an operation aren't printed, by its numbers, its type and the length of its buffer.
 fn refused_operation(
@@ -23,7 +22,7 @@ fn refused_operation(
     len: usize,
     origin: i64,
 ) -> Option<Refusal>
-    ensures { MatchOption result (IsPrinted rep count ty.now len origin) (IsWithheld rep count ty.now len origin) }
+    ensures { MatchOption result (IsClear (operation_row rep count ty.now len origin)) (IsFirst (operation_row rep count ty.now len origin)) }
 {
     if count < 0 {
         return Some(Refusal::BadArgument);

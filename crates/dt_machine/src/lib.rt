@@ -6,6 +6,8 @@ mod bytes;
 mod define;
 mod fill;
 pub mod find;
+pub mod laws;
+mod limits;
 pub mod machine;
 mod names;
 mod outcome;

@@ -11,6 +11,7 @@ ghost use Rattle.dt_script.specs.Name.{begins_with_mpi};
 ghost use Rattle.dt_reply.specs.Reply.{Refused, Gives, Responds};
 
 use crate::buffer::Buffer;
+use crate::limits::{MOST_MADE, MOST_TYPES};
 use crate::outcome::{Change, Outcome, Stop};
 use crate::state::{Kept, Totals};
 use crate::types::{Held, Types};
@@ -21,9 +22,6 @@ use dt_type::{Datatype, FormOf};
 use std::alloc::Global;
 use std::collections::BTreeMap;
 use std::marker::Model;
-
-/// So many types may stand.
-const MOST_TYPES: usize = 1024;
 
 /// Whether a datatype is basic.
 pub(crate) fn is_basic(ty: &Datatype) -> bool
@@ -195,7 +193,7 @@ impl Machine {
     pub(crate) fn is_full(&self) -> bool
         ensures { IsTrue result ↔ NoMoreTypes self.now }
     {
-        self.types.len() >= MOST_TYPES || self.types.made() == u64::MAX
+        self.types.len() >= MOST_TYPES || self.types.made() == MOST_MADE
     }
 
     /// How many buffers stand.

@@ -1,8 +1,11 @@
 //! Commands on names of types: `child NAME = TYPE INT`, `commit TYPE`, `free TYPE`.
-ghost use Rattle.std.specs.Prelude.{◌≡◌, false, is_none, MatchOption};
+ghost use Rattle.std.specs.Prelude.{◌≡◌, false, is_none, [], MatchOption};
+ghost use Rattle.dt_kinds.specs.Name.{is_left_out};
 ghost use Rattle.dt_machine.specs.declared.outcome.Stop.TheVariants.{Refused};
-ghost use Rattle.dt_machine.specs.Outcome.{ComesTo, IsMissing, IsFreeFor, IsTakenFor};
-ghost use Rattle.dt_machine.specs.State.{type_of};
+ghost use Rattle.dt_machine.specs.Outcome.{ComesTo, IsMissing};
+ghost use Rattle.dt_machine.specs.Refusal.{new_type_row};
+ghost use Rattle.dt_machine.specs.Row.{IsFirst, IsClear};
+ghost use Rattle.dt_machine.specs.State.{type_of, is_unknown};
 ghost use Rattle.dt_script.specs.declared.command.Command.TheVariants.{Child, Commit, Free};
 
 use crate::machine::{Machine, is_basic, is_left_out};
@@ -56,7 +59,7 @@ impl Machine {
 
     /// Why no old type of a type is named, by the names alone.
     fn refused_child(&self, name: &Name, ty: &Name) -> Option<Refusal>
-        ensures { MatchOption result (IsFreeFor self.now name.now ty.now) (λ refusal. IsTakenFor self.now name.now ty.now refusal) }
+        ensures { MatchOption result (IsClear (new_type_row self.now name.now (is_unknown self.now ty.now) (is_left_out ty.now) [])) (IsFirst (new_type_row self.now name.now (is_unknown self.now ty.now) (is_left_out ty.now) [])) }
     {
         if self.is_unknown(ty) {
             Some(Refusal::UnknownName)

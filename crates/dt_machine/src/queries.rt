@@ -3,14 +3,12 @@
 ghost use Rattle.dt_machine.specs.Outcome.{ComesTo};
 ghost use Rattle.dt_script.specs.declared.command.Command.TheVariants.{Contents, Envelope, Info, Map, Show};
 
+use crate::limits::MOST_ENTRIES;
 use crate::machine::Machine;
 use crate::outcome::{Outcome, Stop, told};
 use dt_reply::{Refusal, contents_line, envelope_line, info_line, map_line, shown_line};
 use dt_script::Name;
 use dt_type::{ContentsFault, FlattenFault};
-
-/// So many entries `map` lists.
-const MOST_ENTRIES: u64 = 4096;
 
 impl Machine {
     /// `info TYPE`

@@ -1,9 +1,12 @@
 use Rattle.std.proofs.Common.{refl}
 use Rattle.dt_reply.specs.Reply.{Shown}
 use Rattle.dt_script.specs.declared.command.Command.TheVariants.{Show}
-use Rattle.dt_machine.proofs.Operations.{show_allowed}
+use Rattle.dt_machine.proofs.Operations.{show_unknown, show_allowed}
 use Rattle.dt_machine.proofs.Outcomes.{told_outcome}
 use Rattle.dt_machine.proofs.machine.Machine.show.Goals as goal
+
+pub returns-in_default : goal.returns-in_default
+returns-in_default c = show_unknown c.args.self.now c.args.buffer.now c.in_default.ensures
 
 pub returns : goal.returns
 returns c =
