@@ -3,7 +3,7 @@ use Rattle.std.specs.Prelude.{◌≡◌, true, false, IsTrue, List, ℕ, ◌<◌
 use Rattle.dt_kinds.specs.Name.{is_left_out}
 use Rattle.dt_reply.specs.declared.refusal.Refusal.{Refusal}
 use Rattle.dt_reply.specs.declared.refusal.Refusal.TheVariants as refusal
-use Rattle.dt_reply.specs.Reply.{Reply, Done, text_of, is_accepted}
+use Rattle.dt_reply.specs.Reply.{is_accepted}
 use Rattle.dt_script.specs.declared.command.Command.{Command}
 use Rattle.dt_type.specs.Basic.{is_basic}
 use Rattle.dt_type.specs.declared.fault.CtorFault.{CtorFault}
@@ -40,14 +40,12 @@ CanChange (Commit name) s = IsSome (under name s.types)
 CanChange (Free name) s = (kept : Kept) → under name s.types ≡ Some kept → is_basic kept.ty ≡ false
 CanChange (AddBuffer name bytes) s = Unit {0}
 
--- a command that is allowed: the line of its reply, and the change that it makes
+-- a command that is allowed: its reply, and the change that it makes
 pub record IsOutcome (s : State) (command : Command) (o : Outcome) : Type 0 where
   pub allowed : IsAllowed s command
   pub can_change : CanChange o.change s
-  pub reply : Reply
-  pub performs : Performs command s reply (counted (changed o.change s))
-  pub text : o.line.items ≡ text_of reply
-  pub accepted : IsTrue (is_accepted reply)
+  pub performs : Performs command s o.reply (counted (changed o.change s))
+  pub accepted : IsTrue (is_accepted o.reply)
 
 -- why it stops: a refusal, or want of memory, which is tied to nothing
 abbrev pub IsStop : State → Command → Stop → Type 0
@@ -63,16 +61,6 @@ IsMissing s word (Refused refusal.UnknownName) = IsTrue (is_unknown s word)
 IsMissing s word (Refused refusal.UnsupportedKind) = IsTrue (is_left_out word)
 IsMissing s word NoMemory = Unit {0}
 IsMissing s word stop = ⊥
-
--- the reply `ok`, with a change
-pub record IsDone (made : Change) (o : Outcome) : Type 0 where
-  pub line : o.line.items ≡ text_of Done
-  pub change : o.change ≡ made
-
--- a line that changes nothing
-pub record IsTold (text : List ℕ) (o : Outcome) : Type 0 where
-  pub line : o.line.items ≡ text
-  pub change : o.change ≡ Nothing
 
 -- a constructor's fault as a refusal
 abbrev pub stop_by : CtorFault → Stop

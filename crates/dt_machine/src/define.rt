@@ -192,6 +192,6 @@ impl Machine {
         let name = name.copied()?;
         let committed = self.is_committed_by(ctor);
         let kept = Kept { ty, committed };
-        done(self.alloc, Change::AddType { name, kept })
+        Ok(done(Change::AddType { name, kept }))
     }
 }

@@ -84,6 +84,6 @@ impl Machine {
         }
         let name = name.copied()?;
         let buffer = filled(self.alloc, fill)?;
-        done(self.alloc, Change::AddBuffer { name, buffer })
+        Ok(done(Change::AddBuffer { name, buffer }))
     }
 }

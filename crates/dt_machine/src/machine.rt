@@ -8,7 +8,7 @@ ghost use Rattle.dt_machine.specs.Standing.{IsFound};
 ghost use Rattle.dt_machine.specs.Step.{Step, Obeys};
 ghost use Rattle.dt_type.specs.Basic.{is_basic};
 ghost use Rattle.dt_script.specs.Name.{begins_with_mpi};
-ghost use Rattle.dt_reply.specs.Reply.{Refused, Gives, Responds};
+ghost use Rattle.dt_reply.specs.Reply.{Refused, Gives, Responds, text_of};
 
 use crate::buffer::Buffer;
 use crate::limits::{MOST_MADE, MOST_TYPES};
@@ -16,7 +16,7 @@ use crate::outcome::{Change, Outcome, Stop};
 use crate::state::{Kept, Totals};
 use crate::types::{Held, Types};
 use dt_kinds::{Kind, KindFault, NoMemory};
-use dt_reply::{Refusal, refusal_line};
+use dt_reply::{Refusal, Reply};
 use dt_script::{Command, LineFault, Name, parse_line};
 use dt_type::{Datatype, FormOf};
 use std::alloc::Global;
@@ -233,16 +233,19 @@ impl Machine {
         Ok(())
     }
 
-    /// Replies to a command that is allowed, and makes its change. All memory is taken before anything changes.
+    /// Replies to a command that is allowed, and makes its change. The line is written before anything changes.
     fn perform(&mut self, outcome: Outcome, out: &mut Vec<u8>) -> Result<bool, NoMemory>
         requires { CanChange outcome.change self.old }
-        ensures ok { IfOk result (λ accepted. (accepted ≡ true) × (self.new ≡ counted (changed outcome.change self.old)) × (out.new.items ≡ out.old.items ++ outcome.line.items)) }
+        ensures ok { IfOk result (λ accepted. (accepted ≡ true) × (self.new ≡ counted (changed outcome.change self.old)) × (out.new.items ≡ out.old.items ++ text_of outcome.reply)) }
         ensures err { OnErr result ((self.new ≡ self.old) × (out.new.items ≡ out.old.items)) }
     {
-        let Outcome { line, change } = outcome;
-        out.reserve(line.len())?;
-        self.change(change)?;
-        out.extend_from_slice(&line).unwrap();
+        let Outcome { reply, change } = outcome;
+        let before = out.len();
+        reply.write(self.alloc, out)?;
+        let Ok(()) = self.change(change) else {
+            out.truncate(before);
+            return Err(NoMemory);
+        };
         Ok(true)
     }
 
@@ -251,8 +254,7 @@ impl Machine {
         ensures ok { IfOk result (λ accepted. Gives (Refused refusal) accepted out.old.items out.new.items) }
         ensures err { OnErr result (out.new.items ≡ out.old.items) }
     {
-        let line = refusal_line(self.alloc, refusal)?;
-        out.extend_from_slice(&line)?;
+        Reply::Refused(refusal).write(self.alloc, out)?;
         Ok(false)
     }
 

@@ -37,10 +37,10 @@ impl Machine {
             return Err(Stop::Refused(refusal));
         }
         if ty.is_reserved() {
-            return done(self.alloc, Change::Nothing);
+            return Ok(done(Change::Nothing));
         }
         let name = ty.copied()?;
-        done(self.alloc, Change::Commit { name })
+        Ok(done(Change::Commit { name }))
     }
 
     /// `free TYPE`
@@ -54,7 +54,7 @@ impl Machine {
             return Err(Stop::Refused(Refusal::BasicType));
         }
         let name = ty.copied()?;
-        done(self.alloc, Change::Free { name })
+        Ok(done(Change::Free { name }))
     }
 
     /// Why no old type of a type is named, by the names alone.
@@ -98,6 +98,6 @@ impl Machine {
             ty: child,
             committed,
         };
-        done(self.alloc, Change::AddType { name, kept })
+        Ok(done(Change::AddType { name, kept }))
     }
 }

@@ -6,8 +6,8 @@ ghost use Rattle.dt_script.specs.declared.command.Command.TheVariants.{Contents,
 use crate::limits::MOST_ENTRIES;
 use crate::machine::Machine;
 use crate::outcome::{Outcome, Stop, told};
-use dt_reply::{Refusal, contents_line, envelope_line, info_line, map_line, shown_line};
-use dt_script::Name;
+use dt_reply::{Refusal, Reply};
+use dt_script::{Bytes, Name};
 use dt_type::{ContentsFault, FlattenFault};
 
 impl Machine {
@@ -19,8 +19,7 @@ impl Machine {
             Ok(kept) => kept,
             Err(stop) => return Err(stop),
         };
-        let line = info_line(self.alloc, kept.ty.bounds(), kept.committed)?;
-        Ok(told(line))
+        Ok(told(Reply::Told(kept.ty.bounds(), kept.committed)))
     }
 
     /// `map TYPE`
@@ -36,8 +35,7 @@ impl Machine {
             Err(FlattenFault::TooMany) => return Err(Stop::Refused(Refusal::TooManyEntries)),
             Err(FlattenFault::NoMemory) => return Err(Stop::NoMemory),
         };
-        let line = map_line(self.alloc, &map)?;
-        Ok(told(line))
+        Ok(told(Reply::Listed(map)))
     }
 
     /// `envelope TYPE`
@@ -48,8 +46,7 @@ impl Machine {
             Ok(kept) => kept,
             Err(stop) => return Err(stop),
         };
-        let line = envelope_line(self.alloc, kept.ty.envelope())?;
-        Ok(told(line))
+        Ok(told(Reply::Described(kept.ty.envelope())))
     }
 
     /// `contents TYPE`
@@ -65,8 +62,7 @@ impl Machine {
             Err(ContentsFault::Named) => return Err(Stop::Refused(Refusal::NamedType)),
             Err(ContentsFault::NoMemory) => return Err(Stop::NoMemory),
         };
-        let line = contents_line(self.alloc, &contents)?;
-        Ok(told(line))
+        Ok(told(Reply::Contained(contents)))
     }
 
     /// `show BUFFER`
@@ -76,7 +72,7 @@ impl Machine {
         let Some(bytes) = self.buffer(buffer) else {
             return Err(Stop::Refused(Refusal::UnknownName));
         };
-        let line = shown_line(self.alloc, bytes)?;
-        Ok(told(line))
+        let bytes = Vec::from_slice(self.alloc, bytes)?;
+        Ok(told(Reply::Shown(Bytes::from_vec(bytes))))
     }
 }

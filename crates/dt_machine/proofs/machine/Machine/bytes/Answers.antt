@@ -3,7 +3,7 @@ use Rattle.std.proofs.lemmas.Bool.{true_from_ne_false}
 use Rattle.std.proofs.lemmas.Int.{to_z-of_z}
 use Rattle.std.specs.Int.{w32, w64}
 use Rattle.dt_map.specs.Packed.{packed}
-use Rattle.dt_reply.specs.Reply.{Packed, text_of}
+use Rattle.dt_reply.specs.Reply.{Packed}
 use Rattle.dt_script.specs.declared.command.Command.TheVariants.{Bytes}
 use Rattle.dt_machine.specs.Refusal.{elements_of}
 use Rattle.dt_machine.proofs.Operations.{bytes_unknown, bytes_missing, bytes_allowed, bytes_withheld}
@@ -40,7 +40,6 @@ returns c =
     let held = c.in-Some.buffer.now in
     let es = elements_of kept c.args.count c.args.origin in
     let bytes : c.in_ok-bytes.bytes.items ≡ packed c.args.rep es held = simp (copies, origin) at c.in_ok-bytes.ensures in
-    let line = c.in_ok-line.ensures ∙ ap (λ b. text_of (Packed b)) (c.deref.ensures.value ∙ bytes) in
-    told_outcome c.args.self.now (Bytes c.args.rep c.args.count c.args.ty.now c.args.buffer.now c.args.origin) (Packed (packed c.args.rep es held)) c.in_ok-line.line.items c.told.result
+    told_outcome c.args.self.now (Bytes c.args.rep c.args.count c.args.ty.now c.args.buffer.now c.args.origin) (Packed c.from_vec.result) c.told.result
     (bytes_allowed c.args.self.now c.args.rep c.args.count c.args.ty.now c.args.buffer.now c.args.origin held c.in-Some.ensures kept c.in-Ok.ensures printed)
-    (kept, held, c.in-Ok.ensures, c.in-Some.ensures, refl, refl) refl c.told.ensures line
+    (kept, held, c.in-Ok.ensures, c.in-Some.ensures, ap Packed (c.from_vec.ensures ∙ bytes), refl) refl c.told.ensures

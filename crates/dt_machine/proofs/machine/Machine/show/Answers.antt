@@ -1,4 +1,4 @@
-use Rattle.std.proofs.Common.{refl}
+use Rattle.std.proofs.Common.{refl, ap}
 use Rattle.dt_reply.specs.Reply.{Shown}
 use Rattle.dt_script.specs.declared.command.Command.TheVariants.{Show}
 use Rattle.dt_machine.proofs.Operations.{show_unknown, show_allowed}
@@ -11,5 +11,5 @@ returns-in_default c = show_unknown c.args.self.now c.args.buffer.now c.in_defau
 pub returns : goal.returns
 returns c =
     let bytes = c.in-Some.bytes.now in
-    told_outcome c.args.self.now (Show c.args.buffer.now) (Shown bytes) c.in_ok-line.line.items c.told.result
-    (show_allowed c.args.self.now c.args.buffer.now bytes c.in-Some.ensures) (bytes, c.in-Some.ensures, refl, refl) refl c.told.ensures c.in_ok-line.ensures
+    told_outcome c.args.self.now (Show c.args.buffer.now) (Shown c.from_vec.result) c.told.result
+    (show_allowed c.args.self.now c.args.buffer.now bytes c.in-Some.ensures) (bytes, c.in-Some.ensures, ap Shown ?, refl) refl c.told.ensures
