@@ -9,7 +9,7 @@ use Rattle.dt_ctor.specs.Answer.{IsCause, IsAnswer}
 use Rattle.dt_kinds.specs.Name.{is_left_out}
 use Rattle.dt_reply.specs.declared.refusal.Refusal.{Refusal}
 use Rattle.dt_reply.specs.declared.refusal.Refusal.TheVariants as refusal
-use Rattle.dt_reply.specs.Reply.{Done}
+use Rattle.dt_reply.specs.declared.reply.Reply.TheVariants.{Done}
 use Rattle.dt_script.specs.declared.command.Command.{Command}
 use Rattle.dt_script.specs.declared.command.Command.TheVariants.{Define}
 use Rattle.dt_script.specs.declared.command.Ctor.{Ctor}

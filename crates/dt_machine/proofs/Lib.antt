@@ -2,6 +2,7 @@ pub mod Definitions
 pub mod Fills
 pub mod Lines
 pub mod NamedTypes
+pub mod Once
 pub mod Operations
 pub mod Outcomes
 pub mod Rows

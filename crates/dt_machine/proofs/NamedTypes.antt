@@ -8,7 +8,7 @@ use Rattle.dt_kinds.specs.declared.kind.KindFault.{KindFault}
 use Rattle.dt_kinds.specs.Name.{kind_of, is_left_out}
 use Rattle.dt_reply.specs.declared.refusal.Refusal.{Refusal}
 use Rattle.dt_reply.specs.declared.refusal.Refusal.TheVariants as refusal
-use Rattle.dt_reply.specs.Reply.{Done}
+use Rattle.dt_reply.specs.declared.reply.Reply.TheVariants.{Done}
 use Rattle.dt_script.specs.declared.command.Command.TheVariants.{Child, Commit, Free}
 use Rattle.dt_script.specs.Name.{begins_with_mpi, is_name, name_of}
 use Rattle.dt_type.specs.declared.datatype.Seen.{Seen, out-roll-Seen}

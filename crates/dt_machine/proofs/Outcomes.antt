@@ -1,6 +1,8 @@
 -- The outcome of a command that is allowed.
 use Rattle.std.proofs.Common.{◌≡◌, true, refl, sym, subst}
-use Rattle.dt_reply.specs.Reply.{Reply, Done, is_accepted}
+use Rattle.dt_reply.specs.Reply.{is_accepted}
+use Rattle.dt_reply.specs.declared.reply.Reply.{Reply}
+use Rattle.dt_reply.specs.declared.reply.Reply.TheVariants.{Done}
 use Rattle.dt_script.specs.declared.command.Command.{Command}
 use Rattle.dt_machine.specs.declared.outcome.Change.{Change}
 use Rattle.dt_machine.specs.declared.outcome.Change.TheVariants.{Nothing}

@@ -1,5 +1,5 @@
 -- What names stand for, as their handles are made, changed and taken away.
-use Rattle.std.proofs.Common.{◌≡◌, ◌≢◌, ℕ, suc, Bool, true, false, cond, ◌||◌, List, [], ◌∷◌, ◌++◌, length, Option, Some, None, IsSome, is_some, IsTrue, Result, Err, IsErrOf, refl, sym, ap, subst, ◌∙◌}
+use Rattle.std.proofs.Common.{◌≡◌, ◌≢◌, ℕ, suc, Bool, true, false, cond, ◌||◌, List, [], ◌∷◌, ◌++◌, length, Option, Some, None, IsSome, is_some, IsTrue, Result, Err, IsErrOf, ◌+◌, refl, sym, ap, subst, ◌∙◌, arith}
 use Rattle.std.specs.BTreeMap.{is_at, insert_entry}
 use Rattle.std.specs.Cmp.Lexicographic.{slice_cmp}
 use Rattle.std.specs.declared.cmp.Ordering.{Ordering}
@@ -7,12 +7,12 @@ use Rattle.std.specs.declared.cmp.Ordering.TheVariants.{Less, Equal, Greater}
 use Rattle.std.specs.List.{AllByRecursion}
 use Rattle.std.specs.Map.{lookup, set_value, remove_entry}
 use Rattle.std.specs.Option.{option_map}
-use Rattle.std.specs.Ordering.{match_ordering, nat_cmp}
+use Rattle.std.specs.Ordering.{is_eq, match_ordering, nat_cmp}
 use Rattle.dt_registry.specs.declared.fault.HandleFault.{HandleFault}
 use Rattle.dt_registry.specs.declared.fault.HandleFault.TheVariants.{Stale, Basic}
 use Rattle.dt_registry.specs.declared.registry.Handle.{Handle}
 use Rattle.dt_registry.specs.declared.registry.Live.{Live}
-use Rattle.dt_registry.specs.Registry.{Registry, live_at, type_at, flag_at, committed, committed_at, is_live_basic, is_basic_at, Changes, Makes, Sets}
+use Rattle.dt_registry.specs.Registry.{Registry, live_at, live_count, type_at, flag_at, committed, committed_at, is_live_basic, is_basic_at, Changes, Makes, Sets}
 use Rattle.dt_type.specs.Basic.{is_basic}
 use Rattle.dt_type.specs.declared.datatype.Seen.{Seen}
 use Rattle.dt_machine.specs.declared.state.Kept.{Kept}
@@ -138,6 +138,28 @@ apart_remove test (e ∷ es) apart = by (test e.0) (apart_remove test es apart.1
     by : (b : Bool) → AreApart (remove_entry test es) → AreApart (cond b es (e ∷ remove_entry test es))
     by true rest = apart.1
     by false rest = (all_removed (λ other. other.1 ≢ e.1) test es apart.0, rest)
+
+-- one name more, and one less
+length_inserted : (cmp : List ℕ → List ℕ → Ordering) (names : Names) (name : List ℕ) (h : Handle) → lookup (is_at (cmp name)) names ≡ None
+    → length (insert_entry cmp names name h) ≡ length names + 1
+length_inserted cmp [] name h none = refl
+length_inserted cmp (e ∷ es) name h none = by (cmp name e.0) none (length_inserted cmp es name h)
+  where
+    by : (o : Ordering) → cond (is_eq o) (Some e.1) (lookup (is_at (cmp name)) es) ≡ None
+        → (lookup (is_at (cmp name)) es ≡ None → length (insert_entry cmp es name h) ≡ length es + 1)
+        → length (match_ordering o ((name, h) ∷ e ∷ es) ((e.0, h) ∷ es) (e ∷ insert_entry cmp es name h)) ≡ length (e ∷ es) + 1
+    by Less is rest = omega arith
+    by Equal is rest = cc
+    by Greater is rest = let more = rest is in omega (arith, more)
+
+length_removed : (test : List ℕ → Bool) (names : Names) (h : Handle) → lookup test names ≡ Some h → length (remove_entry test names) + 1 ≡ length names
+length_removed test [] h at = cc
+length_removed test (e ∷ es) h at = by (test e.0) at (length_removed test es h)
+  where
+    by : (b : Bool) → cond b (Some e.1) (lookup test es) ≡ Some h → (lookup test es ≡ Some h → length (remove_entry test es) + 1 ≡ length es)
+        → length (cond b es (e ∷ remove_entry test es)) + 1 ≡ length (e ∷ es)
+    by true is rest = omega arith
+    by false is rest = let less = rest is in omega (arith, less)
 
 -- the name that has a handle is the only one
 others_removed : (test : List ℕ → Bool) (names : Names) (h : Handle) → AreApart names → lookup test names ≡ Some h → AreOthers h (remove_entry test names)
@@ -275,6 +297,11 @@ kept_said serial kept basic = ap (λ flag. let k : Kept = record { ty = kept.ty;
     by true is = sym (is refl)
     by false is = refl
 
+-- what isn't some is none
+none_of_some : {A : Type 0} (o : Option A) → ¬ IsSome o → o ≡ None
+none_of_some None nothing = refl
+none_of_some (Some x) nothing = absurd (nothing refl)
+
 abbrev flagged : Kept → Kept
 flagged kept = record { ty = kept.ty; committed = true }
 
@@ -311,13 +338,18 @@ module _ {r : Registry} {names : Names} {s : Standing} (holds : HoldsNames r nam
       let made = makes.made in
       cc
 
-  pub holds_made : (new : Registry) (h : Handle) (live : Live) (after : Names) → Makes r new h live → after ≡ insert_entry order names name h → HoldsNames new after
-  holds_made new h live after makes inserts =
+  pub absent_under : under name s.entries ≡ None → ¬ IsSome (under name names)
+  absent_under none some = let same = is_some-under in cc
+
+  pub holds_made : (new : Registry) (h : Handle) (live : Live) (after : Names) → Makes r new h live → live_count new ≡ live_count r + 1
+      → under name s.entries ≡ None → after ≡ insert_entry order names name h → HoldsNames new after
+  holds_made new h live after makes counts free inserts =
       let others = others_where_live r h names makes.was_free holds.live in
       let here : IsSome (live_at new h) = ap (λ (o : Option Live). is_some o) makes.changes.changed in
       let holds_new : HoldsNames new (insert_entry order names name h) = record {
         live = live_insert order new names name h (live_others r new h (Some live) makes.changes names others holds.live) here;
         apart = apart_insert order names name h others holds.apart;
+        whole = counts ∙ ap (λ n. n + 1) holds.whole ∙ sym (length_inserted order names name h (none_of_some (under name names) (absent_under free)));
       } in
       subst (HoldsNames new) (sym inserts) holds_new
 
@@ -328,9 +360,6 @@ module _ {r : Registry} {names : Names} {s : Standing} (holds : HoldsNames r nam
   without_none none =
       let stay : remove_entry test s.entries ≡ s.entries = remove_absent test s.entries (none_under none) in
       is ∙ ap (λ entries. let t : Standing = record { entries = entries; made = s.made } in t) (sym stay)
-
-  pub absent_under : under name s.entries ≡ None → ¬ IsSome (under name names)
-  absent_under none some = let same = is_some-under in cc
 
   -- where a handle was found
   module _ (h : Handle) (at : under name names ≡ Some h) where
@@ -371,13 +400,14 @@ module _ {r : Registry} {names : Names} {s : Standing} (holds : HoldsNames r nam
         entries ∙ ap (λ es. set_value test es (kept_of (committed live.0))) stand ∙ ap (set_value test s.entries) value in
         cc
 
-    pub holds_set : (new : Registry) → Sets r new h (committed_at r h) → HoldsNames new names
-    holds_set new sets =
+    pub holds_set : (new : Registry) → Sets r new h (committed_at r h) → live_count new ≡ live_count r → HoldsNames new names
+    holds_set new sets counts =
         let live = some_of (live_at r h) live_under in
         let some : IsSome (committed_at r h) = ap (λ (o : Option Live). is_some (option_map committed o)) live.1 in
         record {
           live = live_changed r new h (committed_at r h) sets.changes test names some holds.apart holds.live at;
           apart = holds.apart;
+          whole = counts ∙ holds.whole;
         }
 
     pub without : (new : Registry) → Sets r new h None → seen new (remove_entry test names) ≡ without_name s name
@@ -388,9 +418,10 @@ module _ {r : Registry} {names : Names} {s : Standing} (holds : HoldsNames r nam
         let all : standing new (remove_entry test names) ≡ remove_entry test s.entries = entries ∙ ap (remove_entry test) stand in
         cc
 
-    pub holds_removed : (new : Registry) → Sets r new h None → HoldsNames new (remove_entry test names)
-    holds_removed new sets = record {
+    pub holds_removed : (new : Registry) → Sets r new h None → live_count r ≡ live_count new + 1 → HoldsNames new (remove_entry test names)
+    holds_removed new sets counts = record {
       live = live_others r new h None sets.changes (remove_entry test names) (others_removed test names h holds.apart at)
           (all_removed (λ e. IsSome (live_at r e.1)) test names holds.live);
       apart = apart_remove test names holds.apart;
+      whole = let less = length_removed test names h at in let all = holds.whole in omega (arith, counts, less, all);
     }

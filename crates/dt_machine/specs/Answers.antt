@@ -1,7 +1,8 @@
 -- The answers to a script: the replies to its lines, one after another.
 use Rattle.std.specs.Prelude.{◌≡◌, ℕ, Bool, List, [], ◌∷◌}
 use Rattle.std.specs.List.{flat_map, list_all}
-use Rattle.dt_reply.specs.Reply.{Reply, text_of, is_accepted}
+use Rattle.dt_reply.specs.Reply.{text_of, is_accepted}
+use Rattle.dt_reply.specs.declared.reply.Reply.{Reply}
 use Rattle.dt_script.specs.Lines.{script_lines}
 use Rattle.dt_machine.specs.State.{State, first_state}
 use Rattle.dt_machine.specs.Step.{Step}

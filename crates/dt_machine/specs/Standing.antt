@@ -1,5 +1,5 @@
 -- The types that stand, and how many were made.
-use Rattle.std.specs.Prelude.{◌≡◌, ◌≢◌, ℕ, ◌+◌, true, List, [], ◌∷◌, Some, Option, MatchOption, None, IsSome}
+use Rattle.std.specs.Prelude.{◌≡◌, ◌≢◌, ℕ, ◌+◌, true, List, [], ◌∷◌, length, Some, Option, MatchOption, None, IsSome}
 use Rattle.std.specs.BTreeMap.{is_at, insert_entry}
 use Rattle.std.specs.Cmp.Lexicographic.{slice_cmp}
 use Rattle.std.specs.List.{flat_map, AllByRecursion}
@@ -7,7 +7,7 @@ use Rattle.std.specs.Map.{set_value, remove_entry}
 use Rattle.std.specs.Ordering.{nat_cmp}
 use Rattle.dt_registry.specs.declared.registry.Handle.{Handle}
 use Rattle.dt_registry.specs.declared.registry.Live.{Live}
-use Rattle.dt_registry.specs.Registry.{Registry, live_at}
+use Rattle.dt_registry.specs.Registry.{Registry, live_at, live_count}
 use Rattle.dt_machine.specs.declared.state.Kept.{Kept}
 use Rattle.dt_machine.specs.declared.types.Held.{Held}
 
@@ -60,3 +60,4 @@ AreApart (entry ∷ names) = AreOthers entry.1 names × AreApart names
 pub record HoldsNames (r : Registry) (names : List (List ℕ × Handle)) : Type 0 where
   pub live : AreLive r names
   pub apart : AreApart names
+  pub whole : live_count r ≡ length names

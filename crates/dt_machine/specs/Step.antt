@@ -4,7 +4,8 @@ use Rattle.dt_map.specs.Bounds.{bounds_of}
 use Rattle.dt_map.specs.Packed.{packed}
 use Rattle.dt_reply.specs.declared.refusal.Refusal.{Refusal}
 use Rattle.dt_reply.specs.declared.refusal.Refusal.TheVariants.{Syntax}
-use Rattle.dt_reply.specs.Reply.{Reply, Silent, Done, Packed, Shown, Told, Listed, Described, Contained, Refused}
+use Rattle.dt_reply.specs.declared.reply.Reply.{Reply}
+use Rattle.dt_reply.specs.declared.reply.Reply.TheVariants.{Silent, Done, Packed, Shown, Told, Listed, Described, Contained, Refused}
 use Rattle.dt_script.specs.declared.command.Command.{Command}
 use Rattle.dt_script.specs.declared.command.Command.TheVariants.{Define, Child, Commit, Free, Info, Map, Envelope, Contents, Buffer, Show, Bytes}
 use Rattle.dt_script.specs.Name.{begins_with_mpi}

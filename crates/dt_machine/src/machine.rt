@@ -8,7 +8,8 @@ ghost use Rattle.dt_machine.specs.Standing.{IsFound};
 ghost use Rattle.dt_machine.specs.Step.{Step, Obeys};
 ghost use Rattle.dt_type.specs.Basic.{is_basic};
 ghost use Rattle.dt_script.specs.Name.{begins_with_mpi};
-ghost use Rattle.dt_reply.specs.Reply.{Refused, Gives, Responds, text_of};
+ghost use Rattle.dt_reply.specs.Reply.{Gives, Responds, text_of};
+ghost use Rattle.dt_reply.specs.declared.reply.Reply.TheVariants.{Refused};
 
 use crate::buffer::Buffer;
 use crate::limits::{MOST_MADE, MOST_TYPES};

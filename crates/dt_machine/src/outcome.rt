@@ -1,6 +1,7 @@
 //! What a command comes to, before anything changes.
 ghost use Rattle.std.specs.Prelude.{◌≡◌};
-ghost use Rattle.dt_reply.specs.Reply.{Done};
+ghost use Rattle.dt_reply.specs.declared.reply.Reply.TheVariants.{Done};
+
 use crate::buffer::Buffer;
 use crate::state::Kept;
 use dt_kinds::NoMemory;

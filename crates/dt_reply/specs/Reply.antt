@@ -17,8 +17,8 @@ use Rattle.dt_type.specs.declared.form.FormOf.TheVariants.{Named}
 use Rattle.dt_type.specs.Contents.{combiner_of}
 use Rattle.dt_type.specs.Datatype.{form_of}
 use Rattle.dt_reply.specs.Refusal.{number_of, word_of}
-pub use Rattle.dt_reply.specs.declared.reply.Reply.{Reply}
-pub use Rattle.dt_reply.specs.declared.reply.Reply.TheVariants.{Silent, Done, Packed, Shown, Told, Listed, Described, Contained, Refused}
+use Rattle.dt_reply.specs.declared.reply.Reply.{Reply}
+use Rattle.dt_reply.specs.declared.reply.Reply.TheVariants.{Silent, Done, Packed, Shown, Told, Listed, Described, Contained, Refused}
 
 -- a word behind a space
 abbrev pub spaced : List ℕ → List ℕ

@@ -1,6 +1,7 @@
 //! What is replied, and the line that says so. Each line is made in new memory, and `NoMemory` is answered where that runs out.
 ghost use Rattle.std.specs.Prelude.{◌≡◌, ◌++◌, IfOk, OnOk, OnErr};
-ghost use Rattle.dt_reply.specs.Reply.{Contained, Described, Done, Listed, Packed, Refused, Shown, Told, text_of, is_accepted, bytes_words, line_of};
+ghost use Rattle.dt_reply.specs.Reply.{text_of, is_accepted, bytes_words, line_of};
+ghost use Rattle.dt_reply.specs.declared.reply.Reply.TheVariants.{Contained, Described, Done, Listed, Packed, Refused, Shown, Told};
 
 use crate::arguments::{push_envelope, push_listed, push_types};
 use crate::refusal::Refusal;

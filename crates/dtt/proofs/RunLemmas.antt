@@ -9,7 +9,8 @@ use Rattle.std.specs.Io.KnownBytes.{Appends}
 use Rattle.dt_base.specs.Transfer.{AppendsFront}
 use Rattle.dt_machine.specs.Answers.{Run, Answers, text_of_all, are_accepted}
 use Rattle.dt_script.specs.Lines.{script_lines}
-use Rattle.dt_machine.specs.Reply.{Reply, text_of, is_accepted, Gives, Responds}
+use Rattle.dt_machine.specs.Reply.{text_of, is_accepted, Gives, Responds}
+use Rattle.dt_reply.specs.declared.reply.Reply.{Reply}
 use Rattle.dt_machine.specs.State.{State, first_state}
 use Rattle.dt_machine.specs.Step.{Step}
 use Rattle.dtt.specs.Progress.{Progress}

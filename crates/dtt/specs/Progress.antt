@@ -3,7 +3,7 @@ use Rattle.std.specs.Prelude.{◌≡◌, ℕ, Bool, List, ◌++◌, Option}
 use Rattle.std.specs.Io.KnownBytes.{Appends}
 use Rattle.dt_machine.specs.Answers.{Run, text_of_all, are_accepted}
 use Rattle.dt_script.specs.Lines.{script_lines}
-use Rattle.dt_machine.specs.Reply.{Reply}
+use Rattle.dt_reply.specs.declared.reply.Reply.{Reply}
 use Rattle.dt_machine.specs.State.{State, first_state}
 
 -- the lines before the rest were run and led to this state, and their replies were written

@@ -5,7 +5,7 @@ use Rattle.std.specs.Str.{bytes_eq}
 use Rattle.dt_base.specs.Counter.{counted}
 use Rattle.dt_machine.specs.Answers.{Run, Answers, text_of_all}
 use Rattle.dt_script.specs.Lines.{script_lines}
-use Rattle.dt_machine.specs.Reply.{Reply}
+use Rattle.dt_reply.specs.declared.reply.Reply.{Reply}
 use Rattle.dt_machine.specs.State.{State, first_state}
 use Rattle.dtt.specs.declared.status.Status.{Status}
 use Rattle.dtt.specs.declared.status.Status.TheVariants.{Done, Refused, Usage, ReadFault, WriteFault, NoMemory, TooLong}

@@ -3,7 +3,7 @@ use Rattle.std.proofs.lemmas.Bool.{true_from_ne_false}
 use Rattle.std.proofs.lemmas.Int.{to_z-of_z}
 use Rattle.std.specs.Int.{w32, w64}
 use Rattle.dt_map.specs.Packed.{packed}
-use Rattle.dt_reply.specs.Reply.{Packed}
+use Rattle.dt_reply.specs.declared.reply.Reply.TheVariants.{Packed}
 use Rattle.dt_script.specs.declared.command.Command.TheVariants.{Bytes}
 use Rattle.dt_machine.specs.Refusal.{elements_of}
 use Rattle.dt_machine.proofs.Operations.{bytes_unknown, bytes_missing, bytes_allowed, bytes_withheld}

@@ -1,5 +1,5 @@
 use Rattle.std.proofs.Common.{refl, ap, ◌∙◌}
-use Rattle.dt_reply.specs.Reply.{Contained}
+use Rattle.dt_reply.specs.declared.reply.Reply.TheVariants.{Contained}
 use Rattle.dt_script.specs.declared.command.Command.TheVariants.{Contents}
 use Rattle.dt_type.specs.Contents.{contents_of}
 use Rattle.dt_type.specs.Datatype.{form_of}

@@ -1,5 +1,5 @@
 use Rattle.std.proofs.Common.{refl, ap, ◌∙◌}
-use Rattle.dt_reply.specs.Reply.{Described}
+use Rattle.dt_reply.specs.declared.reply.Reply.TheVariants.{Described}
 use Rattle.dt_script.specs.declared.command.Command.TheVariants.{Envelope}
 use Rattle.dt_type.specs.Contents.{envelope_of}
 use Rattle.dt_type.specs.Datatype.{form_of}

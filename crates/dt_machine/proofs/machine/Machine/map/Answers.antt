@@ -1,5 +1,5 @@
 use Rattle.std.proofs.Common.{refl, ap, ◌∙◌}
-use Rattle.dt_reply.specs.Reply.{Listed}
+use Rattle.dt_reply.specs.declared.reply.Reply.TheVariants.{Listed}
 use Rattle.dt_script.specs.declared.command.Command.TheVariants.{Map}
 use Rattle.dt_type.specs.Datatype.{typemap_of}
 use Rattle.dt_machine.proofs.Operations.{map_allowed, map_missing, map_too_many}

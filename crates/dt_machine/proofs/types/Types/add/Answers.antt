@@ -9,7 +9,7 @@ unreachable-requires c =
 
 pub invariant_of-self-2 : goal.invariant_of-self-2
 invariant_of-self-2 c =
-    holds_made c.self.invariant c.self.view_is c.args.name c.add.new.self c.in-Ok.handle _ _ c.in-Ok.ensures.made (search rules)
+    holds_made c.self.invariant c.self.view_is c.args.name c.add.new.self c.in-Ok.handle _ _ c.in-Ok.ensures.made c.in-Ok.ensures.count c.requires.new (search rules)
 
 pub returns-clause-ok : goal.returns-clause-ok
 returns-clause-ok c =

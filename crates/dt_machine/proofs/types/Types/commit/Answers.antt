@@ -14,7 +14,7 @@ unreachable-requires-in_default-commit c =
 pub invariant_of-self : goal.invariant_of-self
 invariant_of-self c =
     let at = sym c.in-Some.ensures.value in
-    holds_set c.self.invariant c.self.view_is c.args.name.now c.in-Some.handle.now at c.commit.new.self c.in-Ok.ensures.committed
+    holds_set c.self.invariant c.self.view_is c.args.name.now c.in-Some.handle.now at c.commit.new.self c.in-Ok.ensures.committed c.commit.ensures.count
 
 pub returns : goal.returns
 returns c =

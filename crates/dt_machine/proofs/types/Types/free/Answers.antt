@@ -13,7 +13,7 @@ pub invariant_of-self : goal.invariant_of-self
 invariant_of-self c =
     let at = sym c.in-Some.ensures.value in
     rw c.in-Some.ensures.entries
-    (holds_removed c.self.invariant c.self.view_is c.args.name.now c.in-Some.handle at c.free.new.self c.in-Ok.ensures.gone)
+    (holds_removed c.self.invariant c.self.view_is c.args.name.now c.in-Some.handle at c.free.new.self c.in-Ok.ensures.gone c.in-Ok.ensures.count)
 
 pub returns-in-Ok : goal.returns-in-Ok
 returns-in-Ok c =
