@@ -37,7 +37,7 @@ use Rattle.dt_machine.specs.State.{State, type_of, old_of, is_unknown, is_type_t
 use Rattle.dt_machine.specs.Step.{Performs}
 use Rattle.dt_machine.proofs.NamedTypes.{can_make, free_under, names_free}
 use Rattle.dt_machine.proofs.Rows.{refused, allowed, behind_three, first_front}
-use Rattle.dt_machine.proofs.TypeWords.{stands}
+use Rattle.dt_names.proofs.WordLemmas.{stands}
 
 -- one more part
 abbrev joined : Option (PartOf Seen) → Option (List (PartOf Seen)) → Option (List (PartOf Seen))
@@ -77,22 +77,22 @@ all_stand s [] known supported = refl
 all_stand s (p ∷ parts) known supported =
     let k = or_parts (is_unknown s p.old) (list_any (λ p. is_unknown s p.old) parts) known in
     let o = or_parts (is_left_out p.old) (list_any (λ p. is_left_out p.old) parts) supported in
-    rw (stands s p.old k.0 o.0) (all_stand s parts k.1 o.1)
+    rw (stands s.types p.old k.0 o.0) (all_stand s parts k.1 o.1)
 
 pub olds_stand : (s : State) (ctor : Ctor) → any_old (is_unknown s) ctor ≡ false → any_old is_left_out ctor ≡ false
     → any_old (λ word. is_none (type_of s word)) ctor ≡ false
-olds_stand s (Contiguous count old) known supported = stands s old known supported
-olds_stand s (Vector count block stride old) known supported = stands s old known supported
-olds_stand s (Hvector count block stride old) known supported = stands s old known supported
-olds_stand s (Indexed old blocks) known supported = stands s old known supported
-olds_stand s (Hindexed old blocks) known supported = stands s old known supported
-olds_stand s (IndexedBlock old block disps) known supported = stands s old known supported
-olds_stand s (HindexedBlock old block disps) known supported = stands s old known supported
+olds_stand s (Contiguous count old) known supported = stands s.types old known supported
+olds_stand s (Vector count block stride old) known supported = stands s.types old known supported
+olds_stand s (Hvector count block stride old) known supported = stands s.types old known supported
+olds_stand s (Indexed old blocks) known supported = stands s.types old known supported
+olds_stand s (Hindexed old blocks) known supported = stands s.types old known supported
+olds_stand s (IndexedBlock old block disps) known supported = stands s.types old known supported
+olds_stand s (HindexedBlock old block disps) known supported = stands s.types old known supported
 olds_stand s (Struct parts) known supported = all_stand s parts known supported
-olds_stand s (Resized lb extent old) known supported = stands s old known supported
-olds_stand s (Dup old) known supported = stands s old known supported
-olds_stand s (Subarray order old dims) known supported = stands s old known supported
-olds_stand s (Darray size rank order old dims) known supported = stands s old known supported
+olds_stand s (Resized lb extent old) known supported = stands s.types old known supported
+olds_stand s (Dup old) known supported = stands s.types old known supported
+olds_stand s (Subarray order old dims) known supported = stands s.types old known supported
+olds_stand s (Darray size rank order old dims) known supported = stands s.types old known supported
 
 -- the answer of the constructor for the form is its answer over the types that stand
 pub answers_in : (s : State) (ctor : Ctor) (form : FormOf Seen) (answer : Result Seen CtorFault) → form_in s ctor ≡ Some form

@@ -6,5 +6,4 @@ pub mod Once
 pub mod Operations
 pub mod Outcomes
 pub mod Rows
-pub mod Standing
 pub mod TypeWords

@@ -18,34 +18,20 @@ use Rattle.dt_type.specs.Contents.{old_at}
 use Rattle.dt_type.specs.Datatype.{form_of}
 use Rattle.dt_type.specs.Form.{olds_of, result_of}
 use Rattle.dt_machine.specs.declared.outcome.Change.TheVariants as change
-use Rattle.dt_machine.specs.declared.outcome.Stop.{Stop}
-use Rattle.dt_machine.specs.declared.outcome.Stop.TheVariants.{Refused, NoMemory}
-use Rattle.dt_machine.specs.declared.state.Kept.{Kept}
-use Rattle.dt_machine.specs.Outcome.{CanChange, IsMissing, IsStop, changed}
+use Rattle.dt_names.specs.declared.stop.Stop.{Stop}
+use Rattle.dt_names.specs.declared.stop.Stop.TheVariants.{Refused, NoMemory}
+use Rattle.dt_names.specs.declared.kept.Kept.{Kept}
+use Rattle.dt_machine.specs.Outcome.{CanChange, IsStop, changed}
 use Rattle.dt_machine.specs.Refusal.{new_type_row, conditions, IsRefusedBy, IsAllowed, LacksChild, NoMoreTypes}
 use Rattle.dt_machine.specs.Row.{◌when◌, IsFirst, IsClear}
-use Rattle.dt_machine.specs.State.{State, under, basic, type_of, is_unknown, is_basic_word, is_type_taken, counted}
+use Rattle.dt_machine.specs.State.{State, type_of, is_unknown, is_basic_word, is_type_taken, counted}
 use Rattle.dt_machine.specs.Step.{Performs}
 use Rattle.dt_machine.proofs.Rows.{refused, allowed, behind_three, first_front, contrary, some_and, and_some}
 use Rattle.dt_machine.proofs.Operations.{basic_by}
-use Rattle.dt_machine.proofs.TypeWords.{missing, only_memory, stands, is_known, is_supported, plain_unknown}
-
--- a basic type is basic
-named_is_basic : (kind : Kind) → is_basic (result_of (Named kind)) ≡ true
-named_is_basic kind = ap (λ layer. is_named layer.form) (out-roll-Seen _)
-
-found_is_basic : (kinds : Result Kind KindFault) → option_map_or (λ kept. is_basic kept.ty) (option_map basic (result_ok kinds)) false ≡ is_ok kinds
-found_is_basic (Ok kind) = named_is_basic kind
-found_is_basic (Err fault) = refl
-
--- a word that begins as the names of MPI do stands for a basic type where it names a kind
-pub reserved_is_basic : (s : State) (word : List ℕ) → begins_with_mpi word ≡ true → is_basic_word s word ≡ is_ok (kind_of word)
-reserved_is_basic s word reserved = rw reserved (found_is_basic (kind_of word))
-
--- a word that names no kind stands for nothing
-unknown_kind : (kinds : Result Kind KindFault) → is_ok kinds ≡ false → is_none (option_map basic (result_ok kinds)) ≡ true
-unknown_kind (Ok kind) h = cc
-unknown_kind (Err fault) h = refl
+use Rattle.dt_machine.proofs.TypeWords.{missing, is_known, is_supported}
+use Rattle.dt_names.proofs.WordLemmas.{only_memory, stands, reserved_is_basic, unknown_kind, plain_under}
+use Rattle.dt_names.specs.Missing.{IsMissing}
+use Rattle.dt_names.specs.Names.{under}
 
 -- what stands where something does
 here_of : (found : Option Kept) → is_none found ≡ false → (kept : Kept) × (found ≡ Some kept)
@@ -54,10 +40,6 @@ here_of (Some kept) h = (kept, refl)
 
 pub here : (s : State) (word : List ℕ) → is_none (type_of s word) ≡ false → (kept : Kept) × (type_of s word ≡ Some kept)
 here s word h = here_of (type_of s word) h
-
--- a word that doesn't begin as the names of MPI do is looked up
-plain_under : (s : State) (word : List ℕ) → begins_with_mpi word ≡ false → type_of s word ≡ under word s.types
-plain_under s word plain = rw plain refl
 
 -- a name that isn't taken stands for nothing
 none_of : (found : Option Kept) → is_some found ≡ false → found ≡ None
@@ -73,7 +55,7 @@ can_make s more =
     elim (cases_lt s.made 18446744073709551615) [ inl lt ↦ lt | inr le ↦ absurd (more (inr le)) ]
 
 -- `commit TYPE`
-pub commit_missing : (s : State) (ty : List ℕ) (stop : Stop) → IsMissing s ty stop → IsStop s (Commit ty) stop
+pub commit_missing : (s : State) (ty : List ℕ) (stop : Stop) → IsMissing s.types ty stop → IsStop s (Commit ty) stop
 commit_missing s ty = missing s ty (Commit ty) [] (λ _ first. first)
 
 pub commit_allowed : (s : State) (ty : List ℕ) (kept : Kept) → type_of s ty ≡ Some kept → IsAllowed s (Commit ty)
@@ -86,11 +68,11 @@ commit_basic s ty kept is reserved = (kept, is, refl, rw reserved refl)
 pub commit_plain : (s : State) (ty : List ℕ) (kept : Kept) → type_of s ty ≡ Some kept → begins_with_mpi ty ≡ false
     → CanChange (change.Commit ty) s × Performs (Commit ty) s Done (counted (changed (change.Commit ty) s))
 commit_plain s ty kept is plain =
-    let stands : under ty s.types ≡ Some kept = sym (plain_under s ty plain) ∙ is in
+    let stands : under ty s.types ≡ Some kept = sym (plain_under s.types ty plain) ∙ is in
     (rw stands refl, (kept, is, refl, rw (plain, stands) refl))
 
 -- `free TYPE`
-pub free_missing : (s : State) (ty : List ℕ) (stop : Stop) → IsMissing s ty stop → IsStop s (Free ty) stop
+pub free_missing : (s : State) (ty : List ℕ) (stop : Stop) → IsMissing s.types ty stop → IsStop s (Free ty) stop
 free_missing s ty = missing s ty (Free ty) (refusal.BasicType when IsTrue (is_basic_word s ty) ∷ []) (λ _ first. first)
 
 pub free_basic : (s : State) (ty : List ℕ) (kept : Kept) → type_of s ty ≡ Some kept → is_basic_word s ty ≡ true → IsRefusedBy s (Free ty) refusal.BasicType
@@ -104,12 +86,12 @@ free_allowed s ty kept is derived =
 derived_plain : (s : State) (ty : List ℕ) (kept : Kept) → type_of s ty ≡ Some kept → is_basic_word s ty ≡ false → begins_with_mpi ty ≡ false
 derived_plain s ty kept is derived =
     false_from_ne_true (begins_with_mpi ty) (λ reserved.
-    let none : is_none (type_of s ty) ≡ true = rw reserved (unknown_kind (kind_of ty) (sym (reserved_is_basic s ty reserved) ∙ derived)) in
+    let none : is_none (type_of s ty) ≡ true = rw reserved (unknown_kind (kind_of ty) (sym (reserved_is_basic s.types ty reserved) ∙ derived)) in
     let apart : true ≡ false = sym none ∙ ap is_none is in cc)
 
 pub free_can : (s : State) (ty : List ℕ) (kept : Kept) → type_of s ty ≡ Some kept → is_basic_word s ty ≡ false → CanChange (change.Free ty) s
 free_can s ty kept is derived other stands =
-    sym (basic_by s ty other (plain_under s ty (derived_plain s ty kept is derived) ∙ stands)) ∙ derived
+    sym (basic_by s ty other (plain_under s.types ty (derived_plain s ty kept is derived) ∙ stands)) ∙ derived
 
 -- the names of a new type say nothing against it
 module _ (s : State) (name : List ℕ) (unknown left_out : Bool) (names : IsClear (new_type_row s name unknown left_out [])) where
@@ -129,9 +111,9 @@ child_names s name ty k refusal first = refused s (Child name ty k) refusal (fir
 
 -- where the names say nothing against it, memory alone can be wanting of the type
 pub child_missing : (s : State) (name ty : List ℕ) (k : ℤ) → IsClear (new_type_row s name (is_unknown s ty) (is_left_out ty) []) → (stop : Stop)
-    → IsMissing s ty stop → IsStop s (Child name ty k) stop
+    → IsMissing s.types ty stop → IsStop s (Child name ty k) stop
 child_missing s name ty k names (Refused refusal) is =
-    absurd (only_memory s ty (stands s ty (names_known s name (is_unknown s ty) (is_left_out ty) names) (names_supported s name (is_unknown s ty) (is_left_out ty) names)) refusal is)
+    absurd (only_memory s.types ty (stands s.types ty (names_known s name (is_unknown s ty) (is_left_out ty) names) (names_supported s name (is_unknown s ty) (is_left_out ty) names)) refusal is)
 child_missing s name ty k names NoMemory is = tt
 
 module _ (s : State) (name ty : List ℕ) (k : ℤ) (names : IsClear (new_type_row s name (is_unknown s ty) (is_left_out ty) [])) (kept : Kept)
@@ -164,25 +146,3 @@ module _ (s : State) (name ty : List ℕ) (k : ℤ) (names : IsClear (new_type_r
 
   pub child_can : (old : Seen) → (¬ NoMoreTypes s) → CanChange (change.AddType name (record { ty = old; committed = is_basic old })) s
   child_can old more = (free_under s name (names_free s name (is_unknown s ty) (is_left_out ty) names), can_make s more, λ basic. basic)
-
--- a name is the word that it was made of
-picked : (test : Bool) (word name : List ℕ) → Some name ≡ cond test (Some word) None → name ≡ word
-picked true word name is = cc
-picked false word name is = cc
-
-pub name_is : (word name : List ℕ) → Some name ≡ name_of word → name ≡ word
-name_is word name is = picked (is_name word) word name is
-
--- what a reserved word stands for that names a kind
-pub kind_found : (s : State) (word : List ℕ) (kind : Kind) → begins_with_mpi word ≡ true → kind_of word ≡ Ok kind
-    → (kept : Kept) × (type_of s word ≡ Some kept) × (form_of kept.ty ≡ Named kind)
-kind_found s word kind reserved names = (basic kind, rw (reserved, names) refl, ap (λ layer. layer.form) (out-roll-Seen _))
-
--- a name that isn't reserved, and the word that it was made of
-pub plain_found : (s : State) (word name : List ℕ) (kept : Kept) → Some name ≡ name_of word → begins_with_mpi name ≡ false
-    → under name s.types ≡ Some kept → type_of s word ≡ Some kept
-plain_found s word name kept made plain is = ap (type_of s) (sym (name_is word name made)) ∙ (plain_under s name plain ∙ is)
-
-pub plain_lost : (s : State) (word name : List ℕ) → Some name ≡ name_of word → begins_with_mpi name ≡ false → under name s.types ≡ None
-    → is_unknown s word ≡ true
-plain_lost s word name made plain none = ap (is_unknown s) (sym (name_is word name made)) ∙ plain_unknown s name plain none

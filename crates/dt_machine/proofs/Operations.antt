@@ -12,26 +12,28 @@ use Rattle.dt_script.specs.declared.command.Command.{Command}
 use Rattle.dt_script.specs.declared.command.Command.TheVariants.{Info, Map, Envelope, Contents, Show, Bytes}
 use Rattle.dt_type.specs.Basic.{is_basic}
 use Rattle.dt_type.specs.Datatype.{entries_of}
-use Rattle.dt_machine.specs.declared.outcome.Stop.{Stop}
-use Rattle.dt_machine.specs.declared.outcome.Stop.TheVariants.{Refused, NoMemory}
-use Rattle.dt_machine.specs.declared.state.Kept.{Kept}
+use Rattle.dt_names.specs.declared.stop.Stop.{Stop}
+use Rattle.dt_names.specs.declared.stop.Stop.TheVariants.{Refused, NoMemory}
+use Rattle.dt_names.specs.declared.kept.Kept.{Kept}
 use Rattle.dt_machine.specs.Limits.{most_entries, most_packed}
 use Rattle.dt_machine.specs.Operation.{operation_row}
-use Rattle.dt_machine.specs.Outcome.{IsMissing, IsStop}
+use Rattle.dt_machine.specs.Outcome.{IsStop}
 use Rattle.dt_machine.specs.Refusal.{conditions, IsRefusedBy, IsAllowed, IsOutside, elements_of}
 use Rattle.dt_machine.specs.Row.{◌when◌, IsFirst, IsClear}
 use Rattle.dt_machine.specs.State.{State, type_of, buffer_of, is_unknown, is_basic_word}
 use Rattle.dt_machine.proofs.Rows.{refused, allowed, contrary, some_and, and_some}
-use Rattle.dt_machine.proofs.TypeWords.{missing, stands_known, is_known, is_supported, left_out_known}
+use Rattle.dt_machine.proofs.TypeWords.{missing, is_known, is_supported}
+use Rattle.dt_names.proofs.WordLemmas.{stands_known, left_out_known}
+use Rattle.dt_names.specs.Missing.{IsMissing}
 
 -- `info TYPE` and `envelope TYPE`
-pub info_missing : (s : State) (ty : List ℕ) (stop : Stop) → IsMissing s ty stop → IsStop s (Info ty) stop
+pub info_missing : (s : State) (ty : List ℕ) (stop : Stop) → IsMissing s.types ty stop → IsStop s (Info ty) stop
 info_missing s ty = missing s ty (Info ty) [] (λ _ first. first)
 
 pub info_allowed : (s : State) (ty : List ℕ) (kept : Kept) → type_of s ty ≡ Some kept → IsAllowed s (Info ty)
 info_allowed s ty kept is = allowed s (Info ty) (is_known s ty kept is, (is_supported s ty kept is, tt))
 
-pub envelope_missing : (s : State) (ty : List ℕ) (stop : Stop) → IsMissing s ty stop → IsStop s (Envelope ty) stop
+pub envelope_missing : (s : State) (ty : List ℕ) (stop : Stop) → IsMissing s.types ty stop → IsStop s (Envelope ty) stop
 envelope_missing s ty = missing s ty (Envelope ty) [] (λ _ first. first)
 
 pub envelope_allowed : (s : State) (ty : List ℕ) (kept : Kept) → type_of s ty ≡ Some kept → IsAllowed s (Envelope ty)
@@ -41,7 +43,7 @@ envelope_allowed s ty kept is = allowed s (Envelope ty) (is_known s ty kept is, 
 abbrev HasMany : Kept → Type 0
 HasMany kept = most_entries < length (entries_of kept.ty)
 
-pub map_missing : (s : State) (ty : List ℕ) (stop : Stop) → IsMissing s ty stop → IsStop s (Map ty) stop
+pub map_missing : (s : State) (ty : List ℕ) (stop : Stop) → IsMissing s.types ty stop → IsStop s (Map ty) stop
 map_missing s ty = missing s ty (Map ty) (refusal.TooManyEntries when IsSomeAnd (type_of s ty) HasMany ∷ []) (λ _ first. first)
 
 pub map_too_many : (s : State) (ty : List ℕ) (kept : Kept) → type_of s ty ≡ Some kept → HasMany kept → IsRefusedBy s (Map ty) refusal.TooManyEntries
@@ -58,7 +60,7 @@ pub basic_by : (s : State) (ty : List ℕ) (kept : Kept) → type_of s ty ≡ So
 basic_by s ty kept is = ap (λ found. option_map_or (λ k. is_basic k.ty) found false) is
 
 -- `contents TYPE`
-pub contents_missing : (s : State) (ty : List ℕ) (stop : Stop) → IsMissing s ty stop → IsStop s (Contents ty) stop
+pub contents_missing : (s : State) (ty : List ℕ) (stop : Stop) → IsMissing s.types ty stop → IsStop s (Contents ty) stop
 contents_missing s ty = missing s ty (Contents ty) (refusal.NamedType when IsTrue (is_basic_word s ty) ∷ []) (λ _ first. first)
 
 pub contents_named : (s : State) (ty : List ℕ) (kept : Kept) → type_of s ty ≡ Some kept → is_basic kept.ty ≡ true → IsRefusedBy s (Contents ty) refusal.NamedType
@@ -95,19 +97,19 @@ module _ (s : State) (rep : Rep) (count : ℤ) (ty buffer : List ℕ) (origin : 
     both_known : is_unknown s ty ≡ false → ¬ IsTrue (is_unknown s ty || is_none (buffer_of s buffer))
     both_known known = contrary (is_unknown s ty || is_none (buffer_of s buffer)) (or_from (is_unknown s ty) (is_none (buffer_of s buffer)) known (ap is_none stands))
 
-    missing_first : (refusal : Refusal) → IsMissing s ty (Refused refusal) → IsFirst (conditions s bytes) refusal
+    missing_first : (refusal : Refusal) → IsMissing s.types ty (Refused refusal) → IsFirst (conditions s bytes) refusal
     missing_first refusal.UnknownName is = or_left (is_unknown s ty) (is_none (buffer_of s buffer)) is
-    missing_first refusal.UnsupportedKind is = (both_known (left_out_known s ty is), is)
+    missing_first refusal.UnsupportedKind is = (both_known (left_out_known s.types ty is), is)
     missing_first other is = absurd is
 
-    pub bytes_missing : (stop : Stop) → IsMissing s ty stop → IsStop s bytes stop
+    pub bytes_missing : (stop : Stop) → IsMissing s.types ty stop → IsStop s bytes stop
     bytes_missing (Refused refusal) is = refused s bytes refusal (missing_first refusal is)
     bytes_missing NoMemory is = tt
 
     -- and the type
     module _ (kept : Kept) (is : type_of s ty ≡ Some kept) where
       known : ¬ IsTrue (is_unknown s ty || is_none (buffer_of s buffer))
-      known = both_known (stands_known s ty kept is)
+      known = both_known (stands_known s.types ty kept is)
 
       outside : IsOut held kept → IsOutside s ty buffer count origin
       outside out = some_and (type_of s ty) (λ kept. IsSomeAnd (buffer_of s buffer) (λ held. IsOut held kept)) kept is (some_and (buffer_of s buffer) (λ held. IsOut held kept) held stands out)

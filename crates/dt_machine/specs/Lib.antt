@@ -1,5 +1,4 @@
 pub mod Answers
-pub mod Find
 pub mod Laws
 pub mod Limits
 pub mod Made
@@ -7,7 +6,6 @@ pub mod Operation
 pub mod Outcome
 pub mod Refusal
 pub mod Row
-pub mod Standing
 pub mod State
 pub mod Step
 pub use Rattle.dt_reply.specs.Reply

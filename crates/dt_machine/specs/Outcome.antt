@@ -11,11 +11,12 @@ use Rattle.dt_type.specs.declared.fault.CtorFault.TheVariants as fault
 use Rattle.dt_machine.specs.declared.outcome.Change.{Change}
 use Rattle.dt_machine.specs.declared.outcome.Change.TheVariants.{Nothing, AddType, Commit, Free, AddBuffer}
 use Rattle.dt_machine.specs.declared.outcome.Outcome.{Outcome}
-use Rattle.dt_machine.specs.declared.outcome.Stop.{Stop}
-use Rattle.dt_machine.specs.declared.outcome.Stop.TheVariants.{Refused, NoMemory}
-use Rattle.dt_machine.specs.declared.state.Kept.{Kept}
+use Rattle.dt_names.specs.declared.stop.Stop.{Stop}
+use Rattle.dt_names.specs.declared.stop.Stop.TheVariants.{Refused, NoMemory}
+use Rattle.dt_names.specs.declared.kept.Kept.{Kept}
 use Rattle.dt_machine.specs.Refusal.{IsRefusedBy, IsAllowed}
-use Rattle.dt_machine.specs.State.{State, under, is_unknown, with_type, with_committed, without_type, with_buffer, counted}
+use Rattle.dt_machine.specs.State.{State, is_unknown, with_type, with_committed, without_type, with_buffer, counted}
+use Rattle.dt_names.specs.Names.{under}
 use Rattle.dt_machine.specs.Step.{Performs}
 
 -- where a name stands for a type, the state with this type committed
@@ -54,13 +55,6 @@ IsStop s command NoMemory = Unit {0}
 
 abbrev pub ComesTo : State → Command → Result Outcome Stop → Type 0
 ComesTo s command result = MatchResult result (IsOutcome s command) (IsStop s command)
-
--- why a type word stands for nothing: it is unknown, or left out
-abbrev pub IsMissing : State → List ℕ → Stop → Type 0
-IsMissing s word (Refused refusal.UnknownName) = IsTrue (is_unknown s word)
-IsMissing s word (Refused refusal.UnsupportedKind) = IsTrue (is_left_out word)
-IsMissing s word NoMemory = Unit {0}
-IsMissing s word stop = ⊥
 
 -- a constructor's fault as a refusal
 abbrev pub stop_by : CtorFault → Stop

@@ -18,11 +18,12 @@ use Rattle.dt_type.specs.Basic.{is_basic}
 use Rattle.dt_type.specs.Contents.{old_at}
 use Rattle.dt_type.specs.Datatype.{typemap_of, entries_of, form_of}
 use Rattle.dt_type.specs.Form.{olds_of}
-use Rattle.dt_machine.specs.declared.state.Kept.{Kept}
+use Rattle.dt_names.specs.declared.kept.Kept.{Kept}
 use Rattle.dt_machine.specs.Limits.{most_types, most_made, most_buffers, largest_buffer, most_bytes, most_entries, most_packed}
 use Rattle.dt_machine.specs.Made.{IsFaultIn}
 use Rattle.dt_machine.specs.Row.{Row, ◌when◌, condition}
-use Rattle.dt_machine.specs.State.{State, type_of, buffer_of, is_unknown, is_basic_word, is_type_taken, is_buffer_taken, bytes_held, bytes_of}
+use Rattle.dt_machine.specs.State.{State, type_of, buffer_of, is_unknown, is_basic_word, is_type_taken, is_buffer_taken, bytes_held}
+use Rattle.dt_names.specs.Names.{bytes_of}
 
 -- a negative length
 abbrev pub IsNegativeFill : Fill → Type 0

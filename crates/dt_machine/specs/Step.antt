@@ -16,10 +16,11 @@ use Rattle.dt_type.specs.Basic.{is_basic}
 use Rattle.dt_type.specs.Contents.{old_at, envelope_of, contents_of}
 use Rattle.dt_type.specs.Datatype.{typemap_of, form_of}
 use Rattle.dt_type.specs.Form.{olds_of, result_of}
-use Rattle.dt_machine.specs.declared.state.Kept.{Kept}
+use Rattle.dt_names.specs.declared.kept.Kept.{Kept}
 use Rattle.dt_machine.specs.Made.{form_in, is_committed_by}
 use Rattle.dt_machine.specs.Refusal.{elements_of, IsRefusedBy, IsAllowed}
-use Rattle.dt_machine.specs.State.{State, type_of, buffer_of, bytes_of, with_type, with_committed, without_type, with_buffer, counted}
+use Rattle.dt_machine.specs.State.{State, type_of, buffer_of, with_type, with_committed, without_type, with_buffer, counted}
+use Rattle.dt_names.specs.Names.{bytes_of}
 
 -- what a command replies and changes that is not refused
 abbrev pub Performs : Command → State → Reply → State → Type 0

@@ -10,14 +10,14 @@ ghost use Rattle.dt_machine.specs.Row.{IsFirst, IsClear};
 ghost use Rattle.dt_machine.specs.State.{type_of, old_of, is_unknown};
 ghost use Rattle.dt_script.specs.declared.command.Command.TheVariants.{Define};
 
-use crate::machine::{Machine, is_left_out};
-use crate::outcome::{Change, Outcome, Stop, done};
-use crate::state::Kept;
+use crate::machine::Machine;
+use crate::outcome::{Change, Outcome, done};
 use dt_array::{darray, subarray};
 use dt_ctor::{
     contiguous, dup, hindexed, hindexed_block, hvector, indexed, indexed_block, resized, structure,
     vector,
 };
+use dt_names::{Kept, Stop, is_left_out};
 use dt_reply::Refusal;
 use dt_script::{Ctor, Name, NamedPart, WordTest};
 use dt_type::{CtorFault, Datatype, Part};

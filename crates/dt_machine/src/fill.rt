@@ -3,14 +3,14 @@ ghost use Rattle.std.specs.Prelude.{◌≡◌, ◌↔◌, length, pos, nat_abs, 
 ghost use Rattle.dt_machine.specs.Outcome.{ComesTo};
 ghost use Rattle.dt_machine.specs.Refusal.{IsNegativeFill, IsTooLarge, conditions};
 ghost use Rattle.dt_machine.specs.Row.{IsFirst, IsClear};
-ghost use Rattle.dt_machine.specs.State.{bytes_of};
+ghost use Rattle.dt_names.specs.Names.{bytes_of};
 ghost use Rattle.dt_script.specs.declared.command.Command.TheVariants.{Buffer as BufferCommand};
 
-use crate::buffer::Buffer;
 use crate::limits::{LARGEST_BUFFER, MOST_BUFFERS, MOST_BYTES};
 use crate::machine::Machine;
-use crate::outcome::{Change, Outcome, Stop, done};
+use crate::outcome::{Change, Outcome, done};
 use dt_kinds::NoMemory;
+use dt_names::{Buffer, Stop};
 use dt_reply::Refusal;
 use dt_script::{Fill, Name};
 use std::alloc::Global;

@@ -2,12 +2,9 @@
 ghost use Rattle.std.specs.Prelude.{◌≡◌};
 ghost use Rattle.dt_reply.specs.declared.reply.Reply.TheVariants.{Done};
 
-use crate::buffer::Buffer;
-use crate::state::Kept;
-use dt_kinds::NoMemory;
-use dt_reply::{Refusal, Reply};
+use dt_names::{Buffer, Kept};
+use dt_reply::Reply;
 use dt_script::Name;
-use std::alloc::AllocError;
 
 /// What a command adds to what stands.
 #[derive(Drop)]
@@ -24,35 +21,6 @@ pub(crate) enum Change {
 pub(crate) struct Outcome {
     pub(crate) reply: Reply,
     pub(crate) change: Change,
-}
-
-/// Why a command isn't performed.
-#[derive(Clone, Copy)]
-pub(crate) enum Stop {
-    Refused(Refusal),
-    NoMemory,
-}
-
-impl From<NoMemory> for Stop {
-    ghost use Rattle.std.specs.Prelude.{◌≡◌};
-    ghost use Rattle.dt_machine.specs.declared.outcome.Stop.TheVariants.{NoMemory as WithoutMemory};
-
-    ghost from_gives = { λ _ stop. stop ≡ WithoutMemory };
-
-    fn from(_error: NoMemory) -> Stop {
-        Stop::NoMemory
-    }
-}
-
-impl From<AllocError> for Stop {
-    ghost use Rattle.std.specs.Prelude.{◌≡◌};
-    ghost use Rattle.dt_machine.specs.declared.outcome.Stop.TheVariants.{NoMemory as WithoutMemory};
-
-    ghost from_gives = { λ _ stop. stop ≡ WithoutMemory };
-
-    fn from(_error: AllocError) -> Stop {
-        Stop::NoMemory
-    }
 }
 
 /// The outcome `ok`, with a change.

@@ -5,7 +5,8 @@ ghost use Rattle.dt_script.specs.declared.command.Command.TheVariants.{Contents,
 
 use crate::limits::MOST_ENTRIES;
 use crate::machine::Machine;
-use crate::outcome::{Outcome, Stop, told};
+use crate::outcome::{Outcome, told};
+use dt_names::Stop;
 use dt_reply::{Refusal, Reply};
 use dt_script::{Bytes, Name};
 use dt_type::{ContentsFault, FlattenFault};

@@ -1,6 +1,6 @@
 use Rattle.std.proofs.Common.{sym, ◌∙◌}
 use Rattle.dt_script.specs.declared.command.Command.TheVariants.{Commit}
-use Rattle.dt_machine.specs.declared.outcome.Stop.TheVariants.{Refused}
+use Rattle.dt_names.specs.declared.stop.Stop.TheVariants.{Refused}
 use Rattle.dt_machine.specs.declared.outcome.Change.TheVariants as change
 use Rattle.dt_machine.proofs.NamedTypes.{here, commit_missing, commit_allowed, commit_basic, commit_plain}
 use Rattle.dt_machine.proofs.Outcomes.{done_outcome}

@@ -1,6 +1,6 @@
 use Rattle.std.proofs.Common.{refl, sym, ◌∙◌}
 use Rattle.dt_script.specs.declared.command.Command.TheVariants.{Free}
-use Rattle.dt_machine.specs.declared.outcome.Stop.TheVariants.{Refused}
+use Rattle.dt_names.specs.declared.stop.Stop.TheVariants.{Refused}
 use Rattle.dt_machine.specs.declared.outcome.Change.TheVariants as change
 use Rattle.dt_machine.proofs.NamedTypes.{here, free_missing, free_allowed, free_basic, free_can}
 use Rattle.dt_machine.proofs.Outcomes.{done_outcome}
