@@ -6,11 +6,10 @@ use Rattle.std.proofs.lemmas.Bool.{cases_lt}
 use Rattle.std.proofs.Math.Nat.{mod-eq_of_lt, div-eq_of_lt, mul-le-mul_left, mul-le-mul_right}
 use Rattle.std.proofs.lemmas.Nat.{div-add-mod'}
 use Rattle.dt_map.specs.Numbers.{below}
-use Rattle.dt_type.specs.declared.form.Dist.TheVariants.{Whole}
-use Rattle.dt_type.specs.declared.form.DistDim.{DistDim}
-use Rattle.dt_type.specs.Arrays.{Axis, dealt, darg_from}
+use Rattle.dt_form.specs.declared.form.Dist.TheVariants.{Whole}
+use Rattle.dt_form.specs.declared.form.DistDim.{DistDim}
+use Rattle.dt_type.specs.Arrays.{Axis, dealt, darg_from, axis_at}
 use Rattle.dt_array.specs.declared.indices.Indices.{Indices}
-use Rattle.dt_array.specs.Dealt.{axis_at}
 use Rattle.dt_array.specs.Indices.{index_at, axis_of, AreInside}
 use Rattle.dt_array.proofs.Lists.{same_below, all_below, map-same}
 use Rattle.dt_array.proofs.Rounds.{in_rounds, held_at}

@@ -7,18 +7,17 @@ use Rattle.std.proofs.lemmas.Int.{ints}
 use Rattle.std.proofs.lemmas.List.{map-append, take_more, at_drop_more, at_drop_all, append-nil, length-map}
 use Rattle.std.proofs.Math.Nat.{mul-one, one-le-mul, mul-div_cancel_left, mod-lt}
 use Rattle.dt_type.specs.declared.datatype.Seen.{Seen}
-use Rattle.dt_type.specs.declared.form.DistDim.{DistDim}
-use Rattle.dt_type.specs.declared.form.FormOf.TheVariants.{Darray}
-use Rattle.dt_type.specs.declared.form.Order.{Order}
-use Rattle.dt_type.specs.Arguments.{is_positive, takes_dist_dim, takes_darg, takes_psize, takes_arguments}
-use Rattle.dt_type.specs.Arrays.{product, coordinate, darray_axes}
+use Rattle.dt_form.specs.declared.form.DistDim.{DistDim}
+use Rattle.dt_form.specs.declared.form.FormOf.TheVariants.{Darray}
+use Rattle.dt_form.specs.declared.form.Order.{Order}
+use Rattle.dt_form.specs.Arguments.{is_positive, takes_dist_dim, takes_darg, takes_psize, takes_arguments, product}
+use Rattle.dt_type.specs.Arrays.{coordinate, darray_axes, axis_at}
 use Rattle.dt_type.specs.Form.{array}
 use Rattle.dt_type.specs.Reach.{capped}
 use Rattle.dt_type.proofs.Reaches.{capped-mul-left}
 use Rattle.dt_array.specs.declared.indices.Indices.{Indices}
 use Rattle.dt_array.specs.Array.{IsArrayOf}
-use Rattle.dt_array.specs.Dealt.{axis_at}
-use Rattle.dt_array.specs.Indices.{axis_of, IsPart}
+use Rattle.dt_array.specs.Indices.{axis_of, AreChosen}
 use Rattle.dt_array.proofs.Places.{product-append}
 
 -- how many places a grid has
@@ -115,7 +114,7 @@ length-darray : (rank : ℕ) (dims : List DistDim) → length (darray_axes rank 
 length-darray rank [] = refl
 length-darray rank (d ∷ dims) = let rest = length-darray rank dims in omega arith
 
-pub darray_says : (size rank : ℤ) (dims : List DistDim) (order : Order) (old : Seen) (made : List Indices) → IsPart made (darray_axes (nat_abs rank) dims)
+pub darray_says : (size rank : ℤ) (dims : List DistDim) (order : Order) (old : Seen) (made : List Indices) → AreChosen made (darray_axes (nat_abs rank) dims)
     → IsTrue (takes_arguments (Darray size rank dims order old)) → IsArrayOf order made old (Darray size rank dims order old)
 darray_says size rank dims order old made part taken = record {
   items = sym (length-map made axis_of) ∙ ap length part.chosen ∙ length-darray (nat_abs rank) dims;

@@ -6,8 +6,9 @@ use Rattle.std.proofs.Math.IntN.{zero-*ℤ}
 use Rattle.std.proofs.lemmas.List.{map-append}
 use Rattle.std.proofs.lemmas.List.Folds.{flat_map-map}
 use Rattle.dt_map.specs.Numbers.{below}
-use Rattle.dt_type.specs.declared.form.Order.TheVariants.{C, Fortran}
-use Rattle.dt_type.specs.Arrays.{product, chosen_places}
+use Rattle.dt_form.specs.declared.form.Order.TheVariants.{C, Fortran}
+use Rattle.dt_form.specs.Arguments.{product}
+use Rattle.dt_type.specs.Arrays.{chosen_places}
 use Rattle.dt_type.specs.Shape.{turn_offsets, grid_offsets}
 use Rattle.dt_array.specs.declared.indices.Indices.{Indices}
 use Rattle.dt_array.specs.Indices.{index_at, axis_of}

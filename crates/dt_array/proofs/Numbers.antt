@@ -3,7 +3,7 @@ use Rattle.std.specs.Prelude.{◌≡◌, ℕ, ◌+◌, ◌*◌, ℤ, pos, ◌+�
 use Rattle.std.proofs.Common.{sym, ap, ◌∙◌, arith}
 use Rattle.std.proofs.lemmas.Int.{ints}
 use Rattle.std.proofs.Math.IntN.{pos-*ℤ-pos}
-use Rattle.dt_ctor.proofs.Products.{sum_times, product_times}
+use Rattle.dt_type.proofs.Times.{sum_times, product_times}
 
 times_sum : (m n : ℕ) (x : ℤ) → pos (m + n) *ℤ x ≡ (pos m *ℤ x) +ℤ (pos n *ℤ x)
 times_sum m n x =

@@ -6,8 +6,9 @@ use Rattle.std.proofs.lemmas.List.{map-append, append-nil}
 use Rattle.std.proofs.lemmas.List.Concat.{flat_map_single}
 use Rattle.std.proofs.lemmas.List.Folds.{flat_map-map}
 use Rattle.std.proofs.Math.Nat.{mul_comm, mul_assoc, mul-one, mul-add}
-use Rattle.dt_type.specs.declared.form.Order.TheVariants.{C, Fortran}
-use Rattle.dt_type.specs.Arrays.{Axis, product, tuples, linear_index, chosen_places}
+use Rattle.dt_form.specs.declared.form.Order.TheVariants.{C, Fortran}
+use Rattle.dt_type.specs.Arrays.{Axis, tuples, linear_index, chosen_places}
+use Rattle.dt_form.specs.Arguments.{product}
 use Rattle.dt_type.proofs.Lookups.{flat_map-flat_map}
 use Rattle.dt_array.proofs.Lists.{same_map, same_flat_map, map-map, map-flat_map, reverse-cons}
 

@@ -6,7 +6,7 @@ use Rattle.std.proofs.lemmas.Int.{ints}
 use Rattle.std.proofs.Math.Nat.{mul-le-mul_right, mul_assoc}
 use Rattle.dt_kinds.specs.Displacement.{FitsDisp}
 use Rattle.dt_type.specs.declared.shape.Turns.{Turns}
-use Rattle.dt_type.specs.Arrays.{product}
+use Rattle.dt_form.specs.Arguments.{product}
 use Rattle.dt_type.specs.Conditions.{IsFactor, AreTurns, AreNested}
 use Rattle.dt_type.specs.Shape.{turn_offsets, grid_offsets}
 use Rattle.dt_type.proofs.Near.{all_append}

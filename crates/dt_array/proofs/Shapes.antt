@@ -13,19 +13,20 @@ use Rattle.dt_map.specs.Typemap.{Marked, shift}
 use Rattle.dt_type.specs.declared.datatype.Seen.{Seen}
 use Rattle.dt_type.specs.declared.fault.CtorFault.{CtorFault}
 use Rattle.dt_type.specs.declared.fault.CtorFault.TheVariants.{BadArgument, Overflow, TooDeep, TooHeavy, NoMemory}
-use Rattle.dt_type.specs.declared.form.FormOf.{FormOf}
-use Rattle.dt_type.specs.declared.form.Order.{Order}
-use Rattle.dt_type.specs.declared.form.Order.TheVariants.{C, Fortran}
+use Rattle.dt_form.specs.declared.form.FormOf.{FormOf}
+use Rattle.dt_form.specs.declared.form.Order.{Order}
+use Rattle.dt_form.specs.declared.form.Order.TheVariants.{C, Fortran}
 use Rattle.dt_type.specs.declared.shape.Cover.TheVariants.{Erase}
 use Rattle.dt_type.specs.declared.shape.ShapeOf.TheVariants.{Grid}
 use Rattle.dt_type.specs.declared.shape.Turns.{Turns}
-use Rattle.dt_type.specs.Arrays.{product, chosen_places}
+use Rattle.dt_form.specs.Arguments.{product}
+use Rattle.dt_type.specs.Arrays.{chosen_places}
 use Rattle.dt_type.specs.Conditions.{AreTurns, AreNested, IsShapeFor}
 use Rattle.dt_type.specs.Datatype.{typemap_of, entries_of, IsInRange}
 use Rattle.dt_type.specs.Form.{map_by, array}
 use Rattle.dt_type.specs.Listing.{entries_at}
 use Rattle.dt_type.specs.Shape.{covered, placed_by, grid_offsets}
-use Rattle.dt_ctor.specs.Answer.{IsCause}
+use Rattle.dt_type.specs.Answer.{IsCause}
 use Rattle.dt_array.specs.declared.indices.Indices.{Indices}
 use Rattle.dt_array.specs.declared.nest.Nest.{Nest}
 use Rattle.dt_array.specs.Array.{IsArrayOf}

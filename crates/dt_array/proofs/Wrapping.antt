@@ -8,10 +8,10 @@ use Rattle.dt_kinds.specs.Displacement.{FitsDisp}
 use Rattle.dt_kinds.proofs.Displacement.{same_disp}
 use Rattle.dt_type.specs.declared.fault.CtorFault.{CtorFault}
 use Rattle.dt_type.specs.declared.fault.CtorFault.TheVariants.{BadArgument, Overflow, TooDeep, TooHeavy, NoMemory}
-use Rattle.dt_type.specs.declared.form.Order.{Order}
-use Rattle.dt_type.specs.declared.form.Order.TheVariants.{C, Fortran}
+use Rattle.dt_form.specs.declared.form.Order.{Order}
+use Rattle.dt_form.specs.declared.form.Order.TheVariants.{C, Fortran}
 use Rattle.dt_type.specs.declared.shape.Turns.{Turns}
-use Rattle.dt_type.specs.Arrays.{product}
+use Rattle.dt_form.specs.Arguments.{product}
 use Rattle.dt_array.specs.declared.indices.Indices.{Indices}
 use Rattle.dt_array.specs.declared.nest.Nest.{Nest}
 use Rattle.dt_array.specs.Indices.{AreInside}

@@ -24,6 +24,6 @@ pub record AreInside (d : Indices) : Type 0 where
   pub inside : AllByRecursion (λ x. x < d.full) (axis_of d).chosen
 
 -- the chosen indices of these dimensions
-pub record IsPart (dims : List Indices) (axes : List Axis) : Type 0 where
+pub record AreChosen (dims : List Indices) (axes : List Axis) : Type 0 where
   pub chosen : map axis_of dims ≡ axes
   pub inside : AllByRecursion AreInside dims

@@ -2,8 +2,8 @@ use Rattle.std.specs.Prelude.{◌≡◌, ℤ, pos, ◌*ℤ◌, List, map, revers
 use Rattle.dt_array.specs.declared.indices.Indices.{Indices}
 use Rattle.dt_array.specs.Indices.{axis_of}
 use Rattle.dt_array.specs.Nested.{nested}
-use Rattle.dt_type.specs.declared.form.Order.{Order}
-use Rattle.dt_type.specs.declared.form.Order.TheVariants.{C, Fortran}
+use Rattle.dt_form.specs.declared.form.Order.{Order}
+use Rattle.dt_form.specs.declared.form.Order.TheVariants.{C, Fortran}
 use Rattle.dt_type.specs.Arrays.{Axis, chosen_places}
 use Rattle.dt_type.specs.Shape.{grid_offsets}
 

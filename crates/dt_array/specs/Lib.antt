@@ -1,5 +1,4 @@
 pub mod Array
-pub mod Dealt
 pub mod Indices
 pub mod Laws
 pub mod Nest

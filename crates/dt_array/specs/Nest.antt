@@ -5,7 +5,7 @@ use Rattle.dt_array.specs.Nested.{nested, span_by}
 use Rattle.dt_kinds.specs.Displacement.{FitsDisp}
 use Rattle.dt_type.specs.declared.fault.CtorFault.{CtorFault}
 use Rattle.dt_type.specs.declared.fault.CtorFault.TheVariants.{BadArgument, Overflow, TooDeep, TooHeavy, NoMemory}
-use Rattle.dt_type.specs.declared.form.Order.{Order}
+use Rattle.dt_form.specs.declared.form.Order.{Order}
 
 -- a number that is in range, and one that isn't
 abbrev pub IsNarrow : ℤ → ℤ → Type 0

@@ -1,9 +1,9 @@
 use Rattle.std.specs.Prelude.{ℤ, pos, ◌*ℤ◌, List, [], ◌∷◌, map, reverse}
 use Rattle.dt_array.specs.declared.indices.Indices.{Indices}
-use Rattle.dt_type.specs.declared.form.Order.{Order}
-use Rattle.dt_type.specs.declared.form.Order.TheVariants.{C, Fortran}
+use Rattle.dt_form.specs.declared.form.Order.{Order}
+use Rattle.dt_form.specs.declared.form.Order.TheVariants.{C, Fortran}
 use Rattle.dt_type.specs.declared.shape.Turns.{Turns}
-use Rattle.dt_type.specs.Arrays.{product}
+use Rattle.dt_form.specs.Arguments.{product}
 
 -- a turn for each chosen index, by the bytes from one index of the dimension to the next
 abbrev pub turns_by : ℤ → Indices → Turns

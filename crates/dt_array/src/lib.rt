@@ -3,12 +3,12 @@
 #![tactic(auto)]
 
 mod built;
-pub mod dealt;
+pub mod darrays;
 pub mod indices;
 pub mod laws;
 mod nest;
-pub mod part;
+pub mod subarrays;
 
-pub use dealt::darray;
+pub use darrays::darray;
 pub use indices::Indices;
-pub use part::subarray;
+pub use subarrays::subarray;

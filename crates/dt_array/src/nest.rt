@@ -4,7 +4,7 @@ ghost use Rattle.std.specs.List.{AllByRecursion};
 ghost use Rattle.dt_array.specs.Indices.{AreInside};
 ghost use Rattle.dt_array.specs.Nest.{IsNarrow, IsWide, IsNest, IsTooWide};
 ghost use Rattle.dt_array.specs.Nested.{turns_by, outermost_first};
-ghost use Rattle.dt_type.specs.declared.form.Order.TheVariants.{C};
+ghost use Rattle.dt_form.specs.declared.form.Order.TheVariants.{C};
 
 use crate::indices::Indices;
 use dt_kinds::fits_disp;
@@ -60,9 +60,7 @@ fn around(alloc: Global, dims: &[Indices], extent: i128) -> Result<Nest, CtorFau
     let mut span = extent;
     for dim in dims {
         let unit = narrow(span)?;
-        let Ok(()) = turns.push(turns_of(dim, unit)) else {
-            return Err(CtorFault::NoMemory);
-        };
+        turns.push(turns_of(dim, unit))?;
         span = units(dim.full, unit);
     }
     turns.reverse();

@@ -9,7 +9,7 @@ use Rattle.dt_map.specs.Constructors.{copies_at}
 use Rattle.dt_map.specs.Numbers.{below}
 use Rattle.dt_map.proofs.Offsets.{in_rows_of}
 use Rattle.dt_type.specs.declared.datatype.Seen.{Seen}
-use Rattle.dt_type.specs.declared.form.FormOf.TheVariants.{Contiguous, Vector, Hvector}
+use Rattle.dt_form.specs.declared.form.FormOf.TheVariants.{Contiguous, Vector, Hvector}
 use Rattle.dt_type.specs.declared.shape.ShapeOf.{ShapeOf}
 use Rattle.dt_type.specs.declared.shape.ShapeOf.TheVariants.{Grid}
 use Rattle.dt_type.specs.declared.shape.Turns.{Turns}
@@ -18,7 +18,7 @@ use Rattle.dt_type.specs.Constructors.{contiguous_offsets, hvector_offsets, vect
 use Rattle.dt_type.specs.Datatype.{typemap_of}
 use Rattle.dt_type.specs.Shape.{turn_offset, turn_offsets}
 use Rattle.dt_ctor.specs.Places.{Places}
-use Rattle.dt_ctor.proofs.Products.{sum_times, product_times}
+use Rattle.dt_type.proofs.Times.{sum_times, product_times}
 
 abbrev turns : ℕ → ℕ → ℤ → ℤ → Turns
 turns count block jump step = record { first = pos 0; count = count; block = block; jump = jump; step = step }

@@ -1,4 +1,4 @@
-pub mod Answers
+pub mod Places
 pub mod Blocks
 pub mod OneCopy
 pub mod Products

@@ -9,7 +9,7 @@ use Rattle.dt_map.specs.Constructors.{copies_at}
 use Rattle.dt_map.specs.Placing.{joined_marks}
 use Rattle.dt_map.specs.Typemap.{Marked, shift, shift_marks}
 use Rattle.dt_type.specs.declared.datatype.Seen.{Seen}
-use Rattle.dt_type.specs.declared.form.FormOf.TheVariants.{Dup}
+use Rattle.dt_form.specs.declared.form.FormOf.TheVariants.{Dup}
 use Rattle.dt_type.specs.declared.shape.Cover.TheVariants.{Erase}
 use Rattle.dt_type.specs.declared.shape.ShapeOf.{ShapeOf}
 use Rattle.dt_type.specs.declared.shape.ShapeOf.TheVariants.{Grid}

@@ -8,24 +8,24 @@ use Rattle.dt_map.specs.Bounds.{extent_of}
 use Rattle.dt_map.specs.Constructors.{copies_at}
 use Rattle.dt_map.specs.Placing.{place}
 use Rattle.dt_type.specs.declared.datatype.Seen.{Seen}
-use Rattle.dt_type.specs.declared.form.AddrBlock.{AddrBlock}
-use Rattle.dt_type.specs.declared.form.FormOf.{FormOf}
-use Rattle.dt_type.specs.declared.form.FormOf.TheVariants.{Indexed, Hindexed, IndexedBlock, HindexedBlock, Struct}
-use Rattle.dt_type.specs.declared.form.IntBlock.{IntBlock}
-use Rattle.dt_type.specs.declared.form.PartOf.{PartOf}
+use Rattle.dt_form.specs.declared.form.AddrBlock.{AddrBlock}
+use Rattle.dt_form.specs.declared.form.FormOf.{FormOf}
+use Rattle.dt_form.specs.declared.form.FormOf.TheVariants.{Indexed, Hindexed, IndexedBlock, HindexedBlock, Struct}
+use Rattle.dt_form.specs.declared.form.IntBlock.{IntBlock}
+use Rattle.dt_form.specs.declared.form.PartOf.{PartOf}
 use Rattle.dt_type.specs.declared.shape.ShapeOf.TheVariants.{Each, Seq}
 use Rattle.dt_type.specs.declared.shape.ShapePartOf.{ShapePartOf}
 use Rattle.dt_type.specs.declared.shape.Spot.{Spot}
 use Rattle.dt_type.specs.Conditions.{IsSpot, IsShapePart}
-use Rattle.dt_type.specs.Constructors.{extents_offsets, block_offsets}
+use Rattle.dt_type.specs.Constructors.{extents_offsets}
 use Rattle.dt_type.specs.Datatype.{typemap_of}
-use Rattle.dt_type.specs.Form as form
+use Rattle.dt_form.specs.Form as form
 use Rattle.dt_type.specs.Form.{map_by}
 use Rattle.dt_type.specs.Shape as shape
 use Rattle.dt_type.specs.Shape.{row_offsets, spot_offsets}
 use Rattle.dt_ctor.specs.Places.{Places}
 use Rattle.dt_ctor.specs.Rows.{int_row, addr_row, int_block_row, addr_block_row, part_row}
-use Rattle.dt_ctor.proofs.Products.{sum_times}
+use Rattle.dt_type.proofs.Times.{sum_times}
 
 pub all_push : {X : Type 0} (P : X → Type 0) (xs : List X) (x : X) → AllByRecursion P xs → P x → AllByRecursion P (xs ++ x ∷ [])
 all_push P [] x h p = (p, tt)
@@ -83,7 +83,7 @@ int_blocks_finished blocks old =
 
 pub addr_blocks_finished : (blocks : List AddrBlock) (old : Seen) → Finished (addr_block_row (extent_in old)) blocks old (Hindexed blocks old)
 addr_blocks_finished blocks old =
-    finished (addr_block_row (extent_in old)) (λ b. block_offsets b.disp (nat_abs b.len) (extent_in old)) (λ b. refl) blocks old (Hindexed blocks old) refl refl refl
+    finished (addr_block_row (extent_in old)) (λ b. row_offsets b.disp (nat_abs b.len) (extent_in old)) (λ b. refl) blocks old (Hindexed blocks old) refl refl refl
 
 pub int_disps_finished : (block : ℤ) (disps : List ℤ) (old : Seen) → Finished (int_row (extent_in old) block) disps old (IndexedBlock block disps old)
 int_disps_finished block disps old =
@@ -92,7 +92,7 @@ int_disps_finished block disps old =
 
 pub addr_disps_finished : (block : ℤ) (disps : List ℤ) (old : Seen) → Finished (addr_row (extent_in old) block) disps old (HindexedBlock block disps old)
 addr_disps_finished block disps old =
-    finished (addr_row (extent_in old) block) (λ d. block_offsets d (nat_abs block) (extent_in old)) (λ d. refl) disps old (HindexedBlock block disps old) refl refl refl
+    finished (addr_row (extent_in old) block) (λ d. row_offsets d (nat_abs block) (extent_in old)) (λ d. refl) disps old (HindexedBlock block disps old) refl refl refl
 
 -- a list of parts, each as a row
 map-map : {X Y Z : Type 0} (g : Y → Z) (f : X → Y) (xs : List X) → map g (map f xs) ≡ map (λ x. g (f x)) xs

@@ -1,9 +1,9 @@
 use Rattle.std.specs.Prelude.{◌≡◌}
 use Rattle.dt_type.specs.declared.datatype.Seen.{Seen}
-use Rattle.dt_type.specs.declared.form.FormOf.{FormOf}
+use Rattle.dt_form.specs.declared.form.FormOf.{FormOf}
 use Rattle.dt_type.specs.declared.shape.ShapeOf.{ShapeOf}
 use Rattle.dt_type.specs.Conditions.{HasNumbers}
-use Rattle.dt_type.specs.Form as form
+use Rattle.dt_form.specs.Form as form
 use Rattle.dt_type.specs.Form.{map_by}
 use Rattle.dt_type.specs.Shape as shape
 use Rattle.dt_type.specs.Shape.{placed_by}

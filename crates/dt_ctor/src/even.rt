@@ -1,12 +1,13 @@
 //! Constructors whose copies are in blocks of one length, at one distance.
-ghost use Rattle.std.specs.Prelude.{◌≡◌, ◌≤◌};
-ghost use Rattle.dt_ctor.specs.Answer.{IsAnswer, IfMemory};
+ghost use Rattle.std.specs.Prelude.{◌≡◌, ◌≤◌, IfOk};
+ghost use Rattle.dt_type.specs.Answer.{IsAnswer};
 ghost use Rattle.dt_ctor.specs.Places.{Places};
 ghost use Rattle.dt_type.specs.Conditions.{IsFactor, AreTurns};
 ghost use Rattle.dt_type.specs.Constructors.{hvector_offsets};
 ghost use Rattle.dt_type.specs.Shape.{turn_offsets};
 
-use crate::built::{built, extent_of, extents, shared};
+use crate::built::{built, extent_of, extents};
+use dt_kinds::NoMemory;
 use dt_type::{CtorFault, Datatype, FormOf, Shape, ShapeOf, Turns};
 use sqlite_items::Items;
 use std::alloc::Global;
@@ -37,9 +38,9 @@ fn blocks_of(
     block: i32,
     jump: i128,
     old: &Datatype,
-) -> Result<Shape, CtorFault>
+) -> Result<Shape, NoMemory>
     requires { IsFactor jump }
-    ensures { IfMemory result (λ s. Places s (FormOf.Hvector count block jump old.now)) }
+    ensures { IfOk result (λ s. Places s (FormOf.Hvector count block jump old.now)) }
 {
     let each = turns_of(
         count.unsigned_abs(),
@@ -47,18 +48,15 @@ fn blocks_of(
         jump,
         extent_of(old),
     );
-    let Ok(turns) = Items::from_slice(alloc, &[each]) else {
-        return Err(CtorFault::NoMemory);
-    };
     Ok(ShapeOf::Grid {
-        turns,
-        old: shared(old)?,
+        turns: Items::from_slice(alloc, &[each])?,
+        old: old.share()?,
     })
 }
 
 /// `count` copies of the old type, one extent apart (MPI 4.1, section 5.1.2, `MPI_Type_contiguous`). `BadArgument` where `count` is
 /// negative.
-#[tactic(auto, using(crate::proofs::Answers::answers))]
+#[tactic(auto, using(dt_type::proofs::Answers::answers))]
 pub fn contiguous(alloc: Global, count: i32, old: &Datatype) -> Result<Datatype, CtorFault>
     ensures { IsAnswer (FormOf.Contiguous count old.now) result }
 {
@@ -68,7 +66,7 @@ pub fn contiguous(alloc: Global, count: i32, old: &Datatype) -> Result<Datatype,
     let shape = blocks_of(alloc, 1, count, 0, old)?;
     let form = FormOf::Contiguous {
         count,
-        old: shared(old)?,
+        old: old.share()?,
     };
     built(alloc, shape, form)
 }
@@ -76,7 +74,7 @@ pub fn contiguous(alloc: Global, count: i32, old: &Datatype) -> Result<Datatype,
 /// `count` blocks of `block` copies of the old type, one extent apart within a block. Blocks begin `stride` extents apart, also
 /// where the extent is negative or 0 (MPI 4.1, section 5.1.2, `MPI_Type_vector`). `BadArgument` where `count` or `block` is
 /// negative.
-#[tactic(auto, using(crate::proofs::Answers::answers))]
+#[tactic(auto, using(dt_type::proofs::Answers::answers))]
 pub fn vector(
     alloc: Global,
     count: i32,
@@ -95,14 +93,14 @@ pub fn vector(
         count,
         block,
         stride,
-        old: shared(old)?,
+        old: old.share()?,
     };
     built(alloc, shape, form)
 }
 
 /// `count` blocks of `block` copies of the old type, one extent apart within a block. Blocks begin `stride` bytes apart (MPI 4.1,
 /// section 5.1.2, `MPI_Type_create_hvector`). `BadArgument` where `count` or `block` is negative.
-#[tactic(auto, using(crate::proofs::Answers::answers))]
+#[tactic(auto, using(dt_type::proofs::Answers::answers))]
 pub fn hvector(
     alloc: Global,
     count: i32,
@@ -120,7 +118,7 @@ pub fn hvector(
         count,
         block,
         stride,
-        old: shared(old)?,
+        old: old.share()?,
     };
     built(alloc, shape, form)
 }

@@ -3,11 +3,11 @@
 
 mod built;
 pub mod even;
-pub mod listed;
 pub mod once;
 pub mod parts;
+pub mod uneven;
 
 pub use even::{contiguous, hvector, vector};
-pub use listed::{hindexed, hindexed_block, indexed, indexed_block};
 pub use once::{dup, resized};
 pub use parts::structure;
+pub use uneven::{hindexed, hindexed_block, indexed, indexed_block};

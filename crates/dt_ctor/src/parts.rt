@@ -1,13 +1,14 @@
 //! The constructor that places several old types.
-ghost use Rattle.std.specs.Prelude.{◌≡◌, ◌++◌, [], ◌∷◌};
+ghost use Rattle.std.specs.Prelude.{◌≡◌, ◌++◌, [], ◌∷◌, IfOk};
 ghost use Rattle.std.specs.List.{AllByRecursion, list_all};
-ghost use Rattle.dt_ctor.specs.Answer.{IsAnswer, IfMemory};
+ghost use Rattle.dt_type.specs.Answer.{IsAnswer};
 ghost use Rattle.dt_ctor.specs.Places.{Places};
 ghost use Rattle.dt_ctor.specs.Rows.{part_row};
-ghost use Rattle.dt_type.specs.Arguments.{is_count};
+ghost use Rattle.dt_form.specs.Arguments.{is_count};
 ghost use Rattle.dt_type.specs.Conditions.{IsShapePart};
 
-use crate::built::{built, extent_of, shared};
+use crate::built::{built, extent_of};
+use dt_kinds::NoMemory;
 use dt_type::{
     CtorFault, Datatype, Form, FormOf, Part, PartOf, Shape, ShapeOf, ShapePart, ShapePartOf,
 };
@@ -22,44 +23,41 @@ fn are_parts(parts: &[Part]) -> bool
 }
 
 /// The row of a part, by the extent of its own old type.
-fn row_of(part: &Part) -> Result<ShapePart, CtorFault>
-    ensures { IfMemory result (λ row. (row ≡ part_row part.now) × IsShapePart row) }
+fn row_of(part: &Part) -> Result<ShapePart, NoMemory>
+    ensures { IfOk result (λ row. (row ≡ part_row part.now) × IsShapePart row) }
 {
     Ok(ShapePartOf {
         first: i128::from(part.disp),
         copies: part.len.unsigned_abs(),
         step: extent_of(&part.old),
-        old: shared(&part.old)?,
+        old: part.old.share()?,
     })
 }
 
 /// The same part again.
-fn copy_of(part: &Part) -> Result<Part, CtorFault>
-    ensures { IfMemory result (λ copy. copy ≡ part.now) }
+fn copy_of(part: &Part) -> Result<Part, NoMemory>
+    ensures { IfOk result (λ copy. copy ≡ part.now) }
 {
     Ok(PartOf {
         len: part.len,
         disp: part.disp,
-        old: shared(&part.old)?,
+        old: part.old.share()?,
     })
 }
 
 /// One more row.
-fn add_row(rows: &mut Items<ShapePart>, row: ShapePart) -> Result<(), CtorFault>
+fn add_row(rows: &mut Items<ShapePart>, row: ShapePart) -> Result<(), NoMemory>
     requires rows { AllByRecursion IsShapePart rows.old }
     requires row { IsShapePart row }
-    ensures added { IfMemory result (λ done. rows.new ≡ rows.old ++ row ∷ []) }
+    ensures added { IfOk result (λ done. rows.new ≡ rows.old ++ row ∷ []) }
     ensures numbers { AllByRecursion IsShapePart rows.new }
 {
-    match rows.push(row) {
-        Ok(()) => Ok(()),
-        Err(_) => Err(CtorFault::NoMemory),
-    }
+    Ok(rows.push(row)?)
 }
 
 /// A row of copies for each part.
-fn rows_of(alloc: Global, parts: &[Part]) -> Result<Shape, CtorFault>
-    ensures { IfMemory result (λ s. Places s (FormOf.Struct parts.now)) }
+fn rows_of(alloc: Global, parts: &[Part]) -> Result<Shape, NoMemory>
+    ensures { IfOk result (λ s. Places s (FormOf.Struct parts.now)) }
 {
     let mut rows = Items::new(alloc);
     for part in parts {
@@ -69,21 +67,19 @@ fn rows_of(alloc: Global, parts: &[Part]) -> Result<Shape, CtorFault>
 }
 
 /// The form of a struct.
-fn form_of(alloc: Global, parts: &[Part]) -> Result<Form, CtorFault>
-    ensures { IfMemory result (λ form. form ≡ FormOf.Struct parts.now) }
+fn form_of(alloc: Global, parts: &[Part]) -> Result<Form, NoMemory>
+    ensures { IfOk result (λ form. form ≡ FormOf.Struct parts.now) }
 {
     let mut copies = Items::new(alloc);
     for part in parts {
-        let Ok(()) = copies.push(copy_of(part)?) else {
-            return Err(CtorFault::NoMemory);
-        };
+        copies.push(copy_of(part)?)?;
     }
     Ok(FormOf::Struct { parts: copies })
 }
 
 /// For each part `len` copies of its old type, one extent of that type apart, from `disp` bytes on (MPI 4.1, section 5.1.2,
 /// `MPI_Type_create_struct`). `BadArgument` where a length is negative. The time is that of reading the list.
-#[tactic(auto, using(crate::proofs::Answers::answers))]
+#[tactic(auto, using(dt_type::proofs::Answers::answers))]
 pub fn structure(alloc: Global, parts: &[Part]) -> Result<Datatype, CtorFault>
     ensures { IsAnswer (FormOf.Struct parts.now) result }
 {

@@ -5,7 +5,7 @@ use Rattle.std.proofs.lemmas.Int.{to_z-of_z}
 use Rattle.std.proofs.lemmas.List.{take_more}
 use Rattle.std.specs.List.{list_any}
 use Rattle.std.specs.Option.{option_map, option_and_then, is_none}
-use Rattle.dt_ctor.specs.Answer.{IsCause, IsAnswer}
+use Rattle.dt_type.specs.Answer.{IsCause, IsAnswer}
 use Rattle.dt_kinds.specs.Name.{is_left_out}
 use Rattle.dt_reply.specs.declared.refusal.Refusal.{Refusal}
 use Rattle.dt_reply.specs.declared.refusal.Refusal.TheVariants as refusal
@@ -18,15 +18,16 @@ use Rattle.dt_script.specs.declared.command.NamedPart.{NamedPart}
 use Rattle.dt_type.specs.declared.datatype.Seen.{Seen, out-roll-Seen}
 use Rattle.dt_type.specs.declared.fault.CtorFault.{CtorFault}
 use Rattle.dt_type.specs.declared.fault.CtorFault.TheVariants as fault
-use Rattle.dt_type.specs.Basic.{is_basic, is_named}
-use Rattle.dt_type.specs.declared.form.AddrBlock.{AddrBlock}
-use Rattle.dt_type.specs.declared.form.DistDim.{DistDim}
-use Rattle.dt_type.specs.declared.form.FormOf.{FormOf}
-use Rattle.dt_type.specs.declared.form.FormOf.TheVariants as form
-use Rattle.dt_type.specs.declared.form.IntBlock.{IntBlock}
-use Rattle.dt_type.specs.declared.form.Order.{Order}
-use Rattle.dt_type.specs.declared.form.PartOf.{PartOf}
-use Rattle.dt_type.specs.declared.form.SubDim.{SubDim}
+use Rattle.dt_type.specs.Basic.{is_basic}
+use Rattle.dt_form.specs.Form.{is_named}
+use Rattle.dt_form.specs.declared.form.AddrBlock.{AddrBlock}
+use Rattle.dt_form.specs.declared.form.DistDim.{DistDim}
+use Rattle.dt_form.specs.declared.form.FormOf.{FormOf}
+use Rattle.dt_form.specs.declared.form.FormOf.TheVariants as form
+use Rattle.dt_form.specs.declared.form.IntBlock.{IntBlock}
+use Rattle.dt_form.specs.declared.form.Order.{Order}
+use Rattle.dt_form.specs.declared.form.PartOf.{PartOf}
+use Rattle.dt_form.specs.declared.form.SubDim.{SubDim}
 use Rattle.dt_machine.specs.declared.outcome.Change.TheVariants.{AddType}
 use Rattle.dt_machine.specs.Made.{part_in, parts_in, form_in, is_committed_by, IsFaultIn, IsAnswerIn}
 use Rattle.dt_script.specs.Olds.{any_old}

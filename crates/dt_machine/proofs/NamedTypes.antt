@@ -12,11 +12,12 @@ use Rattle.dt_reply.specs.declared.reply.Reply.TheVariants.{Done}
 use Rattle.dt_script.specs.declared.command.Command.TheVariants.{Child, Commit, Free}
 use Rattle.dt_script.specs.Name.{begins_with_mpi, is_name, name_of}
 use Rattle.dt_type.specs.declared.datatype.Seen.{Seen, out-roll-Seen}
-use Rattle.dt_type.specs.declared.form.FormOf.TheVariants.{Named}
-use Rattle.dt_type.specs.Basic.{is_basic, is_named}
-use Rattle.dt_type.specs.Contents.{old_at}
+use Rattle.dt_form.specs.declared.form.FormOf.TheVariants.{Named}
+use Rattle.dt_type.specs.Basic.{is_basic}
+use Rattle.dt_form.specs.Form.{is_named, olds_of}
+use Rattle.dt_form.specs.Contents.{old_at}
 use Rattle.dt_type.specs.Datatype.{form_of}
-use Rattle.dt_type.specs.Form.{olds_of, result_of}
+use Rattle.dt_type.specs.Form.{result_of}
 use Rattle.dt_machine.specs.declared.outcome.Change.TheVariants as change
 use Rattle.dt_names.specs.declared.stop.Stop.{Stop}
 use Rattle.dt_names.specs.declared.stop.Stop.TheVariants.{Refused, NoMemory}

@@ -15,9 +15,10 @@ use Rattle.dt_script.specs.Lines.{script_lines}
 use Rattle.dt_script.specs.Name.{begins_with_mpi}
 use Rattle.dt_script.proofs.LineLemmas.{one_meaning}
 use Rattle.dt_type.specs.Basic.{is_basic}
-use Rattle.dt_type.specs.Contents.{old_at, envelope_of, contents_of}
+use Rattle.dt_form.specs.Contents.{old_at, envelope_of, contents_of}
 use Rattle.dt_type.specs.Datatype.{typemap_of, form_of}
-use Rattle.dt_type.specs.Form.{olds_of, result_of}
+use Rattle.dt_form.specs.Form.{olds_of}
+use Rattle.dt_type.specs.Form.{result_of}
 use Rattle.dt_names.specs.declared.kept.Kept.{Kept}
 use Rattle.dt_machine.specs.Answers.{Run, Answers, text_of_all, are_accepted}
 use Rattle.dt_machine.specs.Made.{form_in, is_committed_by}

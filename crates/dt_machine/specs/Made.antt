@@ -1,16 +1,16 @@
 -- What a constructor of a script makes of the types that stand.
 use Rattle.std.specs.Prelude.{◌≡◌, Bool, false, List, [], ◌∷◌, Option, Some, Result, Ok, Err}
 use Rattle.std.specs.Option.{option_map, option_and_then, option_map_or}
-use Rattle.dt_ctor.specs.Answer.{IsMade, IsCause}
+use Rattle.dt_type.specs.Answer.{IsMade, IsCause}
 use Rattle.dt_script.specs.declared.command.Ctor.{Ctor}
 use Rattle.dt_script.specs.declared.command.Ctor.TheVariants.{Contiguous, Vector, Hvector, Indexed, Hindexed, IndexedBlock, HindexedBlock, Struct, Resized, Dup, Subarray, Darray}
 use Rattle.dt_script.specs.declared.command.NamedPart.{NamedPart}
 use Rattle.dt_type.specs.declared.datatype.Seen.{Seen}
 use Rattle.dt_type.specs.declared.fault.CtorFault.{CtorFault}
 use Rattle.dt_type.specs.declared.fault.CtorFault.TheVariants.{NoMemory}
-use Rattle.dt_type.specs.declared.form.FormOf.{FormOf}
-use Rattle.dt_type.specs.declared.form.FormOf.TheVariants as form
-use Rattle.dt_type.specs.declared.form.PartOf.{PartOf}
+use Rattle.dt_form.specs.declared.form.FormOf.{FormOf}
+use Rattle.dt_form.specs.declared.form.FormOf.TheVariants as form
+use Rattle.dt_form.specs.declared.form.PartOf.{PartOf}
 use Rattle.dt_machine.specs.State.{State, type_of, old_of}
 
 -- a part with its old type, and such parts; none where one doesn't stand

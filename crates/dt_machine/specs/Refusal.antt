@@ -15,9 +15,9 @@ use Rattle.dt_script.specs.declared.command.Fill.TheVariants.{Zero, Count, Hex}
 use Rattle.dt_script.specs.Olds.{any_old}
 use Rattle.dt_type.specs.declared.fault.CtorFault.TheVariants as fault
 use Rattle.dt_type.specs.Basic.{is_basic}
-use Rattle.dt_type.specs.Contents.{old_at}
+use Rattle.dt_form.specs.Contents.{old_at}
 use Rattle.dt_type.specs.Datatype.{typemap_of, entries_of, form_of}
-use Rattle.dt_type.specs.Form.{olds_of}
+use Rattle.dt_form.specs.Form.{olds_of}
 use Rattle.dt_names.specs.declared.kept.Kept.{Kept}
 use Rattle.dt_machine.specs.Limits.{most_types, most_made, most_buffers, largest_buffer, most_bytes, most_entries, most_packed}
 use Rattle.dt_machine.specs.Made.{IsFaultIn}

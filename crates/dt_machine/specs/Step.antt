@@ -11,11 +11,12 @@ use Rattle.dt_script.specs.declared.command.Command.TheVariants.{Define, Child, 
 use Rattle.dt_script.specs.Name.{begins_with_mpi}
 use Rattle.dt_script.specs.Line.{Meaning, Blank, Fault, Does, IsLine}
 use Rattle.dt_type.specs.declared.datatype.Seen.{Seen}
-use Rattle.dt_type.specs.declared.form.FormOf.{FormOf}
+use Rattle.dt_form.specs.declared.form.FormOf.{FormOf}
 use Rattle.dt_type.specs.Basic.{is_basic}
-use Rattle.dt_type.specs.Contents.{old_at, envelope_of, contents_of}
+use Rattle.dt_form.specs.Contents.{old_at, envelope_of, contents_of}
 use Rattle.dt_type.specs.Datatype.{typemap_of, form_of}
-use Rattle.dt_type.specs.Form.{olds_of, result_of}
+use Rattle.dt_form.specs.Form.{olds_of}
+use Rattle.dt_type.specs.Form.{result_of}
 use Rattle.dt_names.specs.declared.kept.Kept.{Kept}
 use Rattle.dt_machine.specs.Made.{form_in, is_committed_by}
 use Rattle.dt_machine.specs.Refusal.{elements_of, IsRefusedBy, IsAllowed}

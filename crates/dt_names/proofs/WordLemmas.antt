@@ -13,8 +13,9 @@ use Rattle.dt_reply.specs.declared.refusal.Refusal.{Refusal}
 use Rattle.dt_reply.specs.declared.refusal.Refusal.TheVariants as refusal
 use Rattle.dt_script.specs.Name.{begins_with_mpi, is_name, name_of}
 use Rattle.dt_type.specs.declared.datatype.Seen.{out-roll-Seen}
-use Rattle.dt_type.specs.declared.form.FormOf.TheVariants.{Named}
-use Rattle.dt_type.specs.Basic.{is_basic, is_named}
+use Rattle.dt_form.specs.declared.form.FormOf.TheVariants.{Named}
+use Rattle.dt_type.specs.Basic.{is_basic}
+use Rattle.dt_form.specs.Form.{is_named}
 use Rattle.dt_type.specs.Datatype.{form_of}
 use Rattle.dt_type.specs.Form.{result_of}
 use Rattle.dt_names.specs.declared.kept.Kept.{Kept}

@@ -5,7 +5,7 @@ use Rattle.dt_reply.specs.declared.refusal.Refusal.TheVariants.{UnknownName, Uns
 use Rattle.dt_reply.specs.Refusal.{number_of}
 use Rattle.dt_script.specs.Name.{is_name}
 use Rattle.dt_type.specs.declared.datatype.Seen.{Seen}
-use Rattle.dt_type.specs.declared.form.FormOf.TheVariants.{Named}
+use Rattle.dt_form.specs.declared.form.FormOf.TheVariants.{Named}
 use Rattle.dt_type.specs.Basic.{is_basic}
 use Rattle.dt_type.specs.Datatype.{form_of}
 use Rattle.dt_names.specs.declared.found.Found.{Found}

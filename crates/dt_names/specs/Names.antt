@@ -14,7 +14,7 @@ use Rattle.dt_script.specs.declared.command.Fill.{Fill}
 use Rattle.dt_script.specs.declared.command.Fill.TheVariants.{Zero, Count, Hex}
 use Rattle.dt_script.specs.Name.{begins_with_mpi}
 use Rattle.dt_type.specs.Basic.{is_basic}
-use Rattle.dt_type.specs.declared.form.FormOf.TheVariants.{Named}
+use Rattle.dt_form.specs.declared.form.FormOf.TheVariants.{Named}
 use Rattle.dt_type.specs.Form.{result_of}
 use Rattle.dt_names.specs.declared.kept.Kept.{Kept}
 

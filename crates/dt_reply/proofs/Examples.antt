@@ -8,8 +8,8 @@ use Rattle.dt_map.specs.declared.typemap.Entry.{Entry}
 use Rattle.dt_map.specs.Bounds.{bounds_of}
 use Rattle.dt_map.specs.Typemap.{Marked}
 use Rattle.dt_type.specs.declared.datatype.Seen.{Seen, out-Seen, roll-Seen}
-use Rattle.dt_type.specs.declared.form.FormOf.TheVariants.{Named, Vector, HindexedBlock, Resized}
-use Rattle.dt_type.specs.Contents.{contents_of, envelope_of}
+use Rattle.dt_form.specs.declared.form.FormOf.TheVariants.{Named, Vector, HindexedBlock, Resized}
+use Rattle.dt_form.specs.Contents.{contents_of, envelope_of}
 use Rattle.dt_type.specs.Form.{result_of}
 use Rattle.dt_reply.specs.declared.refusal.Refusal.TheVariants.{TooHeavy}
 use Rattle.dt_reply.specs.Reply.{text_of, line_of, info_words, sizes_words, extent_words, true_bounds_words, map_words, envelope_words, number_words, contents_words, listed_words}

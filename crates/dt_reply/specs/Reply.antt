@@ -7,14 +7,14 @@ use Rattle.dt_map.specs.declared.typemap.Bounds.{Bounds}
 use Rattle.dt_map.specs.declared.typemap.Entry.{Entry}
 use Rattle.dt_map.specs.declared.typemap.Marks.{Marks}
 use Rattle.dt_map.specs.Typemap.{Marked}
-use Rattle.dt_type.specs.declared.contents.ContentsOf.{ContentsOf}
+use Rattle.dt_form.specs.declared.contents.ContentsOf.{ContentsOf}
 use Rattle.dt_type.specs.declared.datatype.Seen.{Seen}
-use Rattle.dt_type.specs.declared.envelope.Combiner.{Combiner}
-use Rattle.dt_type.specs.declared.envelope.Combiner.TheVariants as combiner
-use Rattle.dt_type.specs.declared.envelope.Envelope.{Envelope}
-use Rattle.dt_type.specs.declared.form.FormOf.{FormOf}
-use Rattle.dt_type.specs.declared.form.FormOf.TheVariants.{Named}
-use Rattle.dt_type.specs.Contents.{combiner_of}
+use Rattle.dt_form.specs.declared.envelope.Combiner.{Combiner}
+use Rattle.dt_form.specs.declared.envelope.Combiner.TheVariants as combiner
+use Rattle.dt_form.specs.declared.envelope.Envelope.{Envelope}
+use Rattle.dt_form.specs.declared.form.FormOf.{FormOf}
+use Rattle.dt_form.specs.declared.form.FormOf.TheVariants.{Named}
+use Rattle.dt_form.specs.Contents.{combiner_of}
 use Rattle.dt_type.specs.Datatype.{form_of}
 use Rattle.dt_reply.specs.Refusal.{number_of, word_of}
 use Rattle.dt_reply.specs.declared.reply.Reply.{Reply}

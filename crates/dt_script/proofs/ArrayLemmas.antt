@@ -2,12 +2,12 @@
 use Rattle.std.proofs.Common.{◌≡◌, ℕ, ℤ, true, false, cond, List, ◌∷◌, ◌++◌, Option, Some, None, option_map, refl, ap, sym, subst, ◌∙◌, codes}
 use Rattle.std.proofs.lemmas.Slice.Eq.{bytes_eq-Decides}
 use Rattle.std.specs.Str.{bytes_eq}
-use Rattle.dt_type.specs.declared.form.Dist.{Dist}
-use Rattle.dt_type.specs.declared.form.Dist.TheVariants.{Block, Cyclic, Whole}
-use Rattle.dt_type.specs.declared.form.DistDim.{DistDim}
-use Rattle.dt_type.specs.declared.form.Order.{Order}
-use Rattle.dt_type.specs.declared.form.Order.TheVariants.{C, Fortran}
-use Rattle.dt_type.specs.declared.form.SubDim.{SubDim}
+use Rattle.dt_form.specs.declared.form.Dist.{Dist}
+use Rattle.dt_form.specs.declared.form.Dist.TheVariants.{Block, Cyclic, Whole}
+use Rattle.dt_form.specs.declared.form.DistDim.{DistDim}
+use Rattle.dt_form.specs.declared.form.Order.{Order}
+use Rattle.dt_form.specs.declared.form.Order.TheVariants.{C, Fortran}
+use Rattle.dt_form.specs.declared.form.SubDim.{SubDim}
 use Rattle.dt_script.specs.Array.{order_of, dist_of, darg_of}
 use Rattle.dt_script.specs.Item.{IsOrder, IsDist, IsDarg, IsSubDim, IsDistDim}
 use Rattle.dt_script.specs.Number.{int_of}

@@ -1,7 +1,7 @@
 -- Blocks and parts are read exactly where their words spell them.
 use Rattle.std.proofs.Common.{◌≡◌, ℕ, List, ◌∷◌, ◌++◌, Some, refl, ap, ◌∙◌}
-use Rattle.dt_type.specs.declared.form.IntBlock.{IntBlock}
-use Rattle.dt_type.specs.declared.form.AddrBlock.{AddrBlock}
+use Rattle.dt_form.specs.declared.form.IntBlock.{IntBlock}
+use Rattle.dt_form.specs.declared.form.AddrBlock.{AddrBlock}
 use Rattle.dt_script.specs.declared.command.NamedPart.{NamedPart}
 use Rattle.dt_script.specs.Item.{IsIntBlock, IsAddrBlock, IsPart}
 use Rattle.dt_script.specs.Name.{name_of}

@@ -2,10 +2,10 @@
 use Rattle.std.specs.Prelude.{ℕ, ℤ, if◌then◌else◌, List, Option, Some, None, codes}
 use Rattle.std.specs.Option.{option_map}
 use Rattle.std.specs.Str.{bytes_eq}
-use Rattle.dt_type.specs.declared.form.Dist.{Dist}
-use Rattle.dt_type.specs.declared.form.Dist.TheVariants.{Block, Cyclic, Whole}
-use Rattle.dt_type.specs.declared.form.Order.{Order}
-use Rattle.dt_type.specs.declared.form.Order.TheVariants.{C, Fortran}
+use Rattle.dt_form.specs.declared.form.Dist.{Dist}
+use Rattle.dt_form.specs.declared.form.Dist.TheVariants.{Block, Cyclic, Whole}
+use Rattle.dt_form.specs.declared.form.Order.{Order}
+use Rattle.dt_form.specs.declared.form.Order.TheVariants.{C, Fortran}
 use Rattle.dt_script.specs.Number.{int_of}
 
 -- the order of indices that a word spells

@@ -1,13 +1,13 @@
 -- What one word spells, and what words spell one after another.
 use Rattle.std.specs.Prelude.{◌≡◌, ℕ, ℤ, List, [], ◌∷◌, ◌++◌, Option, Some, None, IsTrue, codes}
-use Rattle.dt_type.specs.declared.form.IntBlock.{IntBlock}
-use Rattle.dt_type.specs.declared.form.AddrBlock.{AddrBlock}
-use Rattle.dt_type.specs.declared.form.Dist.{Dist}
-use Rattle.dt_type.specs.declared.form.Dist.TheVariants.{Block, Cyclic, Whole}
-use Rattle.dt_type.specs.declared.form.DistDim.{DistDim}
-use Rattle.dt_type.specs.declared.form.Order.{Order}
-use Rattle.dt_type.specs.declared.form.Order.TheVariants.{C, Fortran}
-use Rattle.dt_type.specs.declared.form.SubDim.{SubDim}
+use Rattle.dt_form.specs.declared.form.IntBlock.{IntBlock}
+use Rattle.dt_form.specs.declared.form.AddrBlock.{AddrBlock}
+use Rattle.dt_form.specs.declared.form.Dist.{Dist}
+use Rattle.dt_form.specs.declared.form.Dist.TheVariants.{Block, Cyclic, Whole}
+use Rattle.dt_form.specs.declared.form.DistDim.{DistDim}
+use Rattle.dt_form.specs.declared.form.Order.{Order}
+use Rattle.dt_form.specs.declared.form.Order.TheVariants.{C, Fortran}
+use Rattle.dt_form.specs.declared.form.SubDim.{SubDim}
 use Rattle.dt_script.specs.declared.command.NamedPart.{NamedPart}
 use Rattle.dt_script.specs.Hex.{hex_of}
 use Rattle.dt_script.specs.Name.{is_name}

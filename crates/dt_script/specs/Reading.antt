@@ -1,10 +1,10 @@
 -- Words read from left to right: what stands at the front of some words, and the words behind it.
 use Rattle.std.specs.Prelude.{◌≡◌, ℕ, ◌==◌, if◌then◌else◌, List, [], ◌∷◌, Option, Some, None, Result, Ok, Err}
 use Rattle.std.specs.Str.{bytes_eq}
-use Rattle.dt_type.specs.declared.form.IntBlock.{IntBlock}
-use Rattle.dt_type.specs.declared.form.AddrBlock.{AddrBlock}
-use Rattle.dt_type.specs.declared.form.DistDim.{DistDim}
-use Rattle.dt_type.specs.declared.form.SubDim.{SubDim}
+use Rattle.dt_form.specs.declared.form.IntBlock.{IntBlock}
+use Rattle.dt_form.specs.declared.form.AddrBlock.{AddrBlock}
+use Rattle.dt_form.specs.declared.form.DistDim.{DistDim}
+use Rattle.dt_form.specs.declared.form.SubDim.{SubDim}
 use Rattle.dt_script.specs.Array.{order_of, dist_of, darg_of}
 use Rattle.dt_script.specs.declared.command.NamedPart.{NamedPart}
 use Rattle.dt_script.specs.declared.line.LineFault.{LineFault}

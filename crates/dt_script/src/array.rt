@@ -3,7 +3,7 @@ ghost use Rattle.std.specs.Prelude.{◌≡◌};
 ghost use Rattle.dt_script.specs.Array.{order_of, dist_of, darg_of};
 
 use crate::number::int;
-use dt_type::{Dist, Order};
+use dt_form::{Dist, Order};
 
 /// The order of indices that a word spells: `c` or `fortran`.
 pub(crate) fn order(word: &[u8]) -> Option<Order>

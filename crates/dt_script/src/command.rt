@@ -3,8 +3,8 @@ ghost use Rattle.std.specs.List.{list_any};
 
 use crate::bytes::Bytes;
 use crate::name::Name;
+use dt_form::{AddrBlock, DistDim, IntBlock, Order, SubDim};
 use dt_kinds::Rep;
-use dt_type::{AddrBlock, DistDim, IntBlock, Order, SubDim};
 use sqlite_items::Items;
 
 /// One line of a script that is neither blank nor a comment. The fields hold the words of the line in their order.

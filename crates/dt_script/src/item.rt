@@ -9,7 +9,7 @@ use crate::array::{darg, dist, order};
 use crate::command::NamedPart;
 use crate::name::Name;
 use crate::number::{address, int};
-use dt_type::{AddrBlock, DistDim, IntBlock, Order, SubDim};
+use dt_form::{AddrBlock, DistDim, IntBlock, Order, SubDim};
 
 /// What one word can spell.
 pub(crate) trait Item: Sized {

@@ -8,11 +8,11 @@ use Rattle.dt_kinds.specs.declared.kind.Kind.TheVariants.{Byte, Int}
 use Rattle.dt_kinds.specs.Displacement.{FitsDisp}
 use Rattle.dt_map.specs.declared.typemap.Marks.{Marks}
 use Rattle.dt_type.specs.declared.datatype.Seen.{Seen, out-Seen, roll-Seen}
-use Rattle.dt_type.specs.declared.form.Dist.TheVariants.{Cyclic}
-use Rattle.dt_type.specs.declared.form.DistDim.{DistDim}
-use Rattle.dt_type.specs.declared.form.FormOf.TheVariants.{Named, Subarray, Darray, Resized}
-use Rattle.dt_type.specs.declared.form.Order.TheVariants.{C}
-use Rattle.dt_type.specs.declared.form.SubDim.{SubDim}
+use Rattle.dt_form.specs.declared.form.Dist.TheVariants.{Cyclic}
+use Rattle.dt_form.specs.declared.form.DistDim.{DistDim}
+use Rattle.dt_form.specs.declared.form.FormOf.TheVariants.{Named, Subarray, Darray, Resized}
+use Rattle.dt_form.specs.declared.form.Order.TheVariants.{C}
+use Rattle.dt_form.specs.declared.form.SubDim.{SubDim}
 use Rattle.dt_type.specs.declared.shape.Cover.TheVariants.{Erase}
 use Rattle.dt_type.specs.declared.shape.ShapeOf.TheVariants.{Grid}
 use Rattle.dt_type.specs.declared.shape.Turns.{Turns}

@@ -8,12 +8,12 @@ use Rattle.dt_map.specs.declared.typemap.Entry.{Entry}
 use Rattle.dt_map.specs.Bounds.{bounds_of}
 use Rattle.dt_map.specs.Typemap.{Marked}
 use Rattle.dt_type.specs.declared.datatype.Seen.{Seen, out-Seen, roll-Seen}
-use Rattle.dt_type.specs.declared.form.DistDim.{DistDim}
-use Rattle.dt_type.specs.declared.form.Dist.TheVariants.{Block, Cyclic}
-use Rattle.dt_type.specs.declared.form.FormOf.TheVariants.{Named, Dup, Hvector, Struct, Subarray, Darray, Resized}
-use Rattle.dt_type.specs.declared.form.Order.TheVariants.{C, Fortran}
-use Rattle.dt_type.specs.declared.form.PartOf.{PartOf}
-use Rattle.dt_type.specs.declared.form.SubDim.{SubDim}
+use Rattle.dt_form.specs.declared.form.DistDim.{DistDim}
+use Rattle.dt_form.specs.declared.form.Dist.TheVariants.{Block, Cyclic}
+use Rattle.dt_form.specs.declared.form.FormOf.TheVariants.{Named, Dup, Hvector, Struct, Subarray, Darray, Resized}
+use Rattle.dt_form.specs.declared.form.Order.TheVariants.{C, Fortran}
+use Rattle.dt_form.specs.declared.form.PartOf.{PartOf}
+use Rattle.dt_form.specs.declared.form.SubDim.{SubDim}
 use Rattle.dt_type.specs.Datatype.{weight_of, depth_of}
 use Rattle.dt_type.specs.Form.{map_by, result_of}
 

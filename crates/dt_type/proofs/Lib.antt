@@ -1,7 +1,6 @@
+pub mod Answers
 pub mod CopyAt
 pub mod Counted
-pub mod Counts
-pub mod Decodings
 pub mod DigestBounds
 pub mod Digests
 pub mod EntryFits
@@ -18,5 +17,6 @@ pub mod Reading
 pub mod Refusals
 pub mod Rows
 pub mod Shown
+pub mod Times
 pub mod TrueSpans
 pub mod TurnSpans

@@ -6,7 +6,7 @@ use Rattle.dt_kinds.specs.declared.kind.Kind.TheVariants.{Byte}
 use Rattle.dt_kinds.specs.Kind.{native_size, external_size}
 use Rattle.dt_map.specs.declared.typemap.Bounds.{Bounds}
 use Rattle.dt_map.specs.Bounds.{bounds_of}
-use Rattle.dt_type.specs.declared.form.FormOf.TheVariants.{Named}
+use Rattle.dt_form.specs.declared.form.FormOf.TheVariants.{Named}
 use Rattle.dt_type.specs.Form.{map_by}
 
 abbrev pub bounds_from : ℕ → ℕ → Bounds

@@ -1,19 +1,14 @@
--- What a digest says of the typemap under a cover, and that only the first limit is answered.
-use Rattle.std.specs.Prelude.{◌≡◌, Option, ◌≤◌, ◌↔◌, Err, IsErrOf}
-use Rattle.std.proofs.Common.{refl, sym, ap, subst, ◌∙◌, arith}
+-- What a digest says of the typemap under a cover.
+use Rattle.std.specs.Prelude.{◌≡◌, Option, ◌≤◌}
+use Rattle.std.proofs.Common.{sym, ap, subst, ◌∙◌, arith}
 use Rattle.dt_map.specs.declared.typemap.Marks.{Marks}
 use Rattle.dt_map.specs.Bounds.{bounds_of}
 use Rattle.dt_map.specs.Typemap.{Marked}
 use Rattle.dt_map.proofs.Extremes.{alignment-pos}
-use Rattle.dt_type.specs.declared.datatype.Seen.{Seen}
 use Rattle.dt_type.specs.declared.digest.Digest.{Digest}
-use Rattle.dt_type.specs.declared.fault.CtorFault.{CtorFault}
-use Rattle.dt_type.specs.declared.fault.CtorFault.TheVariants.{BadArgument, Overflow, TooDeep, TooHeavy, NoMemory}
-use Rattle.dt_type.specs.declared.form.FormOf.{FormOf}
 use Rattle.dt_type.specs.declared.shape.Cover.{Cover}
 use Rattle.dt_type.specs.Datatype.{AreInRange, IsInRange}
 use Rattle.dt_type.specs.Digest.{digest_of}
-use Rattle.dt_type.specs.Measure.{IsRefusal}
 use Rattle.dt_type.specs.Range.{bounds_from}
 use Rattle.dt_type.specs.Shape.{covered, covered_marks}
 use Rattle.dt_type.proofs.DigestBounds.{told, tells}
@@ -36,10 +31,3 @@ module _ (m : Marked) (cover : Cover) (d : Digest) (marks : Option Marks) (known
 
   pub aligned : 1 ≤ d.align
   aligned = let h = alignment-pos m.entries in let e = ap (λ (x : Digest). x.align) known in omega arith
-
-pub overflow_only : {T : Type 0} (m : Marked) (f : FormOf Seen) (fault : CtorFault) → IsRefusal m f fault → IsErrOf {T = T} (Err fault) Overflow ↔ ¬ IsInRange m
-overflow_only m f Overflow h = ((λ e. h), λ n. refl)
-overflow_only m f BadArgument h = absurd h
-overflow_only m f NoMemory h = absurd h
-overflow_only m f TooDeep h = ((λ e. cc), λ n. absurd (n h.0))
-overflow_only m f TooHeavy h = ((λ e. cc), λ n. absurd (n h.0))

@@ -6,12 +6,13 @@ use Rattle.dt_map.specs.Bounds.{bounds_of}
 use Rattle.dt_map.specs.Typemap.{Marked}
 use Rattle.dt_type.specs.declared.datatype.Node.{Node}
 use Rattle.dt_type.specs.declared.datatype.Seen.{Seen, out-Seen, roll-Seen, out-roll-Seen}
-use Rattle.dt_type.specs.declared.form.FormOf.{FormOf}
-use Rattle.dt_type.specs.Arguments.{takes_arguments}
+use Rattle.dt_form.specs.declared.form.FormOf.{FormOf}
+use Rattle.dt_form.specs.Arguments.{takes_arguments}
 use Rattle.dt_type.specs.Conditions.{IsShapeFor}
 use Rattle.dt_type.specs.Datatype.{Layer, typemap_of, form_of, depth_of, IsInRange}
 use Rattle.dt_type.specs.Falls.{has_level}
-use Rattle.dt_type.specs.Form.{result_of, map_by, weight_by, items_of, deepest}
+use Rattle.dt_type.specs.Form.{result_of, map_by, weight_by, deepest}
+use Rattle.dt_form.specs.Form.{items_of}
 use Rattle.dt_type.proofs.Counted.{sound_elements, sound_external, sound_alignment}
 use Rattle.dt_type.specs.Shape.{olds_of}
 use Rattle.dt_type.specs.Sound.{Sound, layer_of, view_of, map_of}

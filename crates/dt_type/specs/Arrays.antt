@@ -1,16 +1,13 @@
 use Rattle.std.specs.Prelude.{Option, Some, None, ℕ, ◌+◌, ◌-◌, ◌*◌, ◌/◌, ◌%◌, ◌==◌, ℤ, nat_abs, List, [], ◌∷◌, map}
 use Rattle.std.specs.List.{filter, flat_map}
 use Rattle.dt_map.specs.Numbers.{below}
-use Rattle.dt_type.specs.declared.form.Dist.{Dist}
-use Rattle.dt_type.specs.declared.form.Dist.TheVariants.{Block, Cyclic, Whole}
-use Rattle.dt_type.specs.declared.form.DistDim.{DistDim}
-use Rattle.dt_type.specs.declared.form.Order.{Order}
-use Rattle.dt_type.specs.declared.form.Order.TheVariants.{C, Fortran}
-use Rattle.dt_type.specs.declared.form.SubDim.{SubDim}
-
-abbrev pub product : List ℕ → ℕ
-product [] = 1
-product (n ∷ ns) = n * product ns
+use Rattle.dt_form.specs.declared.form.Dist.{Dist}
+use Rattle.dt_form.specs.declared.form.Dist.TheVariants.{Block, Cyclic, Whole}
+use Rattle.dt_form.specs.declared.form.DistDim.{DistDim}
+use Rattle.dt_form.specs.declared.form.Order.{Order}
+use Rattle.dt_form.specs.declared.form.Order.TheVariants.{C, Fortran}
+use Rattle.dt_form.specs.declared.form.SubDim.{SubDim}
+use Rattle.dt_form.specs.Arguments.{product}
 
 -- a dimension of an array: how many indices it has, and those of them that are chosen, in rising order
 pub record Axis : Type 0 where
@@ -58,10 +55,11 @@ dealt dist gsize darg psize r = filter (λ g. (g / darg) % psize == r) (below gs
 abbrev pub coordinate : ℕ → ℕ → List ℕ → ℕ
 coordinate rank psize later = (rank / product later) % psize
 
+-- a dimension, and the indices that the process with coordinate r holds
+abbrev pub axis_at : ℕ → DistDim → Axis
+axis_at r d = record { full = nat_abs d.gsize; chosen = dealt d.dist (nat_abs d.gsize) (darg_from d.darg d) (nat_abs d.psize) r }
+
 -- MPI_Type_create_darray (MPI 4.1, section 5.1.4): the indices that the rank holds
 abbrev pub darray_axes : ℕ → List DistDim → List Axis
 darray_axes rank [] = []
-darray_axes rank (d ∷ dims) =
-    let r = coordinate rank (nat_abs d.psize) (map (λ e. nat_abs e.psize) dims) in
-    let a : Axis = record { full = nat_abs d.gsize; chosen = dealt d.dist (nat_abs d.gsize) (darg_from d.darg d) (nat_abs d.psize) r } in
-    a ∷ darray_axes rank dims
+darray_axes rank (d ∷ dims) = axis_at (coordinate rank (nat_abs d.psize) (map (λ e. nat_abs e.psize) dims)) d ∷ darray_axes rank dims

@@ -2,14 +2,14 @@ use Rattle.std.specs.Prelude.{◌≡◌, ℕ, ◌*◌, ◌^◌, ◌<◌, ◌≤�
 use Rattle.std.specs.List.{AllByRecursion}
 use Rattle.dt_kinds.specs.Displacement.{FitsDisp}
 use Rattle.dt_type.specs.declared.datatype.Seen.{Seen}
-use Rattle.dt_type.specs.declared.form.FormOf.{FormOf}
+use Rattle.dt_form.specs.declared.form.FormOf.{FormOf}
 use Rattle.dt_type.specs.declared.shape.ShapeOf.{ShapeOf}
 use Rattle.dt_type.specs.declared.shape.ShapeOf.TheVariants.{One, Grid, Each, Seq}
 use Rattle.dt_type.specs.declared.shape.ShapePartOf.{ShapePartOf}
 use Rattle.dt_type.specs.declared.shape.Spot.{Spot}
 use Rattle.dt_type.specs.declared.shape.Turns.{Turns}
-use Rattle.dt_type.specs.Arguments.{takes_arguments}
-use Rattle.dt_type.specs.Form as form
+use Rattle.dt_form.specs.Arguments.{takes_arguments}
+use Rattle.dt_form.specs.Form as form
 use Rattle.dt_type.specs.Shape as shape
 use Rattle.dt_type.specs.Shape.{turn_offsets, grid_offsets}
 

@@ -7,7 +7,7 @@ use Rattle.dt_map.specs.Bounds.{bounds_of}
 use Rattle.dt_map.specs.Typemap.{Marked}
 use Rattle.dt_type.specs.declared.datatype.Seen.{Seen, out-Seen}
 use Rattle.dt_type.specs.declared.datatype.Seen.TheOpen.{Seen-F}
-use Rattle.dt_type.specs.declared.form.FormOf.{FormOf}
+use Rattle.dt_form.specs.declared.form.FormOf.{FormOf}
 
 -- a datatype with its old types left closed
 abbrev pub Layer : Type 0

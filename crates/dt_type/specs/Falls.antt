@@ -6,15 +6,16 @@ use Rattle.dt_kinds.specs.declared.kind.Kind.TheVariants.{Byte}
 use Rattle.dt_type.specs.declared.datatype.Node.{Node}
 use Rattle.dt_type.specs.declared.datatype.Seen.{Seen, out-roll-Seen}
 use Rattle.dt_type.specs.declared.datatype.Datatype.TheDeep.{deep-Node}
-use Rattle.dt_type.specs.declared.form.FormOf.{FormOf}
-use Rattle.dt_type.specs.declared.form.FormOf.TheVariants.{Named, Dup, Contiguous, Vector, Hvector, Indexed, Hindexed, IndexedBlock, HindexedBlock, Struct, Subarray, Darray, Resized}
-use Rattle.dt_type.specs.declared.form.PartOf.{PartOf}
+use Rattle.dt_form.specs.declared.form.FormOf.{FormOf}
+use Rattle.dt_form.specs.declared.form.FormOf.TheVariants.{Named, Dup, Contiguous, Vector, Hvector, Indexed, Hindexed, IndexedBlock, HindexedBlock, Struct, Subarray, Darray, Resized}
+use Rattle.dt_form.specs.declared.form.PartOf.{PartOf}
 use Rattle.dt_type.specs.declared.shape.ShapePartOf.{ShapePartOf}
 use Rattle.dt_type.specs.declared.shape.ShapeOf.{ShapeOf}
 use Rattle.dt_type.specs.declared.shape.ShapeOf.TheVariants.{One, Grid, Each, Seq}
-use Rattle.dt_type.specs.Arguments.{takes_arguments}
+use Rattle.dt_form.specs.Arguments.{takes_arguments}
 use Rattle.dt_type.specs.Datatype.{Layer, depth_of}
-use Rattle.dt_type.specs.Form.{deepest, olds_of, levels_of}
+use Rattle.dt_type.specs.Form.{deepest}
+use Rattle.dt_form.specs.Form.{olds_of, levels_of}
 use Rattle.dt_type.specs.Shape as shape
 use Rattle.dt_type.specs.Sound.{Sound, layer_of, view_of}
 

@@ -1,17 +1,20 @@
-use Rattle.std.specs.Prelude.{Some, None, ℕ, ◌+◌, max, ◌+ℤ◌, ◌*ℤ◌, ℤ, pos, nat_abs, List, [], ◌∷◌, map, length}
+use Rattle.std.specs.Prelude.{Some, None, ℕ, ◌+◌, max, ◌+ℤ◌, ◌*ℤ◌, ℤ, pos, nat_abs, List, [], ◌∷◌, map}
 use Rattle.std.specs.List.{flat_map, sum_by}
 use Rattle.dt_map.specs.Bounds.{extent_of}
 use Rattle.dt_map.specs.Constructors.{copies_at}
 use Rattle.dt_map.specs.Placing.{place}
 use Rattle.dt_map.specs.Typemap.{Marked}
 use Rattle.dt_type.specs.declared.datatype.Seen.{Seen, roll-Seen}
-use Rattle.dt_type.specs.declared.form.FormOf.{FormOf}
-use Rattle.dt_type.specs.declared.form.FormOf.TheVariants.{Named, Dup, Contiguous, Vector, Hvector, Indexed, Hindexed, IndexedBlock, HindexedBlock, Struct, Subarray, Darray, Resized}
-use Rattle.dt_type.specs.declared.form.Order.{Order}
-use Rattle.dt_type.specs.declared.form.PartOf.{PartOf}
-use Rattle.dt_type.specs.Arrays.{Axis, product, chosen_places, subarray_axis, darray_axes}
-use Rattle.dt_type.specs.Constructors.{contiguous_offsets, block_offsets, vector_offsets, hvector_offsets, indexed_offsets, hindexed_offsets, indexed_block_offsets, hindexed_block_offsets}
+use Rattle.dt_form.specs.declared.form.FormOf.{FormOf}
+use Rattle.dt_form.specs.declared.form.FormOf.TheVariants.{Named, Dup, Contiguous, Vector, Hvector, Indexed, Hindexed, IndexedBlock, HindexedBlock, Struct, Subarray, Darray, Resized}
+use Rattle.dt_form.specs.declared.form.Order.{Order}
+use Rattle.dt_form.specs.declared.form.PartOf.{PartOf}
+use Rattle.dt_type.specs.Arrays.{Axis, chosen_places, subarray_axis, darray_axes}
+use Rattle.dt_form.specs.Arguments.{product}
+use Rattle.dt_form.specs.Form.{olds_of, items_of, levels_of}
+use Rattle.dt_type.specs.Constructors.{contiguous_offsets, vector_offsets, hvector_offsets, indexed_offsets, hindexed_offsets, indexed_block_offsets, hindexed_block_offsets}
 use Rattle.dt_type.specs.Datatype.{typemap_of, weight_of, depth_of}
+use Rattle.dt_type.specs.Shape.{row_offsets}
 
 -- copies of an old type at offsets that its extent tells
 abbrev pub spread : (ℤ → List ℤ) → Seen → Marked
@@ -20,7 +23,7 @@ spread offsets old = copies_at (offsets (extent_of (typemap_of old))) (typemap_o
 -- the copies of a part of a struct, each with its place
 abbrev pub part_members : PartOf Seen → List (ℤ × Marked)
 part_members p =
-    map (λ x. (x, typemap_of p.old)) (block_offsets p.disp (nat_abs p.len) (extent_of (typemap_of p.old)))
+    map (λ x. (x, typemap_of p.old)) (row_offsets p.disp (nat_abs p.len) (extent_of (typemap_of p.old)))
 
 -- the chosen elements of an array of old types. Marks of the old type are dropped; the new ones are around the full array
 abbrev pub array : Order → List Axis → Seen → Marked
@@ -49,44 +52,6 @@ map_by (Subarray dims order old) = array order (map subarray_axis dims) old
 map_by (Darray size rank dims order old) = array order (darray_axes (nat_abs rank) dims) old
 map_by (Resized lb extent old) =
     record { entries = (typemap_of old).entries; marks = Some (record { lb = lb; ub = lb +ℤ extent }) }
-
--- the old types, in the order of the arguments
-abbrev pub olds_of : FormOf Seen → List Seen
-olds_of (Named kind) = []
-olds_of (Dup old) = old ∷ []
-olds_of (Contiguous count old) = old ∷ []
-olds_of (Vector count block stride old) = old ∷ []
-olds_of (Hvector count block stride old) = old ∷ []
-olds_of (Indexed blocks old) = old ∷ []
-olds_of (Hindexed blocks old) = old ∷ []
-olds_of (IndexedBlock block disps old) = old ∷ []
-olds_of (HindexedBlock block disps old) = old ∷ []
-olds_of (Struct parts) = map (λ p. p.old) parts
-olds_of (Subarray dims order old) = old ∷ []
-olds_of (Darray size rank dims order old) = old ∷ []
-olds_of (Resized lb extent old) = old ∷ []
-
--- how many blocks, displacements, parts or dimensions the arguments list
-abbrev pub items_of : FormOf Seen → ℕ
-items_of (Named kind) = 0
-items_of (Dup old) = 0
-items_of (Contiguous count old) = 1
-items_of (Vector count block stride old) = 1
-items_of (Hvector count block stride old) = 1
-items_of (Indexed blocks old) = length blocks
-items_of (Hindexed blocks old) = length blocks
-items_of (IndexedBlock block disps old) = length disps
-items_of (HindexedBlock block disps old) = length disps
-items_of (Struct parts) = length parts
-items_of (Subarray dims order old) = length dims
-items_of (Darray size rank dims order old) = length dims
-items_of (Resized lb extent old) = 0
-
--- the levels that a constructor puts above its old types: an array has one for each dimension
-abbrev pub levels_of : FormOf Seen → ℕ
-levels_of (Subarray dims order old) = length dims
-levels_of (Darray size rank dims order old) = length dims
-levels_of _ = 1
 
 abbrev pub deepest : List Seen → ℕ
 deepest [] = 0

@@ -3,11 +3,11 @@ use Rattle.std.specs.Option.{option_map}
 use Rattle.dt_map.specs.Numbers.{below}
 use Rattle.dt_map.specs.Typemap.{Marked}
 use Rattle.dt_type.specs.declared.datatype.Seen.{Seen}
-use Rattle.dt_type.specs.Arguments.{takes_arguments}
+use Rattle.dt_form.specs.Arguments.{takes_arguments}
 use Rattle.dt_type.specs.Basic.{is_basic}
-use Rattle.dt_type.specs.Contents.{combiner_of, contents_of}
+use Rattle.dt_form.specs.Contents.{combiner_of, contents_of}
 use Rattle.dt_type.specs.Datatype.{entries_of, form_of}
-use Rattle.dt_type.specs.Decoding.{decoded}
+use Rattle.dt_form.specs.Decoding.{decoded}
 use Rattle.dt_type.specs.Flatten.{IsFlattened}
 use Rattle.dt_type.specs.Form.{result_of}
 

@@ -1,11 +1,10 @@
-pub mod Arguments
+pub mod Answer
 pub mod Arrays
 pub mod Basic
 pub mod Conditions
 pub mod Constructors
 pub mod Contents
 pub mod Datatype
-pub mod Decoding
 pub mod Digest
 pub mod Falls
 pub mod Flatten

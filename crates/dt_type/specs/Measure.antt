@@ -4,7 +4,7 @@ use Rattle.dt_map.specs.Typemap.{Marked}
 use Rattle.dt_type.specs.declared.datatype.Seen.{Seen}
 use Rattle.dt_type.specs.declared.fault.CtorFault.{CtorFault}
 use Rattle.dt_type.specs.declared.fault.CtorFault.TheVariants.{BadArgument, Overflow, TooDeep, TooHeavy, NoMemory}
-use Rattle.dt_type.specs.declared.form.FormOf.{FormOf}
+use Rattle.dt_form.specs.declared.form.FormOf.{FormOf}
 use Rattle.dt_type.specs.declared.make.Measure.{Measure}
 use Rattle.dt_type.specs.Datatype.{IsInRange}
 use Rattle.dt_type.specs.Form.{weight_by, depth_by}

@@ -2,15 +2,16 @@
 ghost use Rattle.std.specs.Prelude.{◌≡◌, ◌≤◌, ◌<◌, IsTrue, IfOk};
 ghost use Rattle.std.specs.List.{AllByRecursion};
 ghost use Rattle.dt_map.specs.Bounds.{bounds_of};
-ghost use Rattle.dt_type.specs.Arguments.{takes_arguments};
+ghost use Rattle.dt_form.specs.Arguments.{takes_arguments};
 ghost use Rattle.dt_type.specs.Conditions.{IsShapeFor};
 ghost use Rattle.dt_type.specs.Datatype.{typemap_of, entries_of, marks_of, form_of, weight_of, depth_of, IsInRange};
-ghost use Rattle.dt_type.specs.Form.{result_of, map_by, items_of};
+ghost use Rattle.dt_type.specs.Form.{result_of, map_by};
+ghost use Rattle.dt_form.specs.Form.{items_of};
 ghost use Rattle.dt_type.specs.Shape.{placed_by, olds_of as placed_olds};
 ghost use Rattle.dt_type.specs.Sound.{Sound};
 
-use crate::form::{Form, FormOf};
 use crate::shape::{Shape, ShapeOf};
+use dt_form::{ContentsOf, FormOf, PartOf};
 use dt_kinds::{Kind, NoMemory};
 use dt_map::{Bounds, Entry, Marks};
 use sqlite_items::{Boxed, Items};
@@ -34,6 +35,15 @@ pub struct Seen {
 pub struct Datatype {
     node: Rc<Node>,
 }
+
+/// The constructor and the arguments of a datatype.
+pub type Form = FormOf<Datatype>;
+
+/// A part of a struct.
+pub type Part = PartOf<Datatype>;
+
+/// The arguments of a datatype, in three lists.
+pub type Contents = ContentsOf<Datatype>;
 
 #[cycle(datatype)]
 #[derive(Drop)]
@@ -90,20 +100,18 @@ impl Datatype {
         requires { Sound node }
         ensures { IfOk result (λ t. t ≡ result_of node.form) }
     {
-        match Rc::new(alloc, node) {
-            Ok(node) => Ok(Datatype { node }),
-            Err(_) => Err(NoMemory),
-        }
+        Ok(Datatype {
+            node: Rc::new(alloc, node)?,
+        })
     }
 
     /// The same datatype again. It takes no memory, but an `Rc` may refuse one more owner.
     pub fn share(&self) -> Result<Datatype, NoMemory>
         ensures { IfOk result (λ t. t ≡ self.now) }
     {
-        match self.node.clone() {
-            Ok(node) => Ok(Datatype { node }),
-            Err(_) => Err(NoMemory),
-        }
+        Ok(Datatype {
+            node: self.node.clone()?,
+        })
     }
 
     /// Sizes and bounds of the typemap (MPI 4.1, sections 5.1.5 to 5.1.8).

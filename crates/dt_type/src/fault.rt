@@ -1,3 +1,12 @@
+//! Why a call on datatypes has no answer.
+ghost use Rattle.std.specs.Prelude.{◌≡◌};
+ghost use Rattle.dt_type.specs.declared.fault.ChildFault.TheVariants as child;
+ghost use Rattle.dt_type.specs.declared.fault.ContentsFault.TheVariants as contents;
+ghost use Rattle.dt_type.specs.declared.fault.CtorFault.TheVariants as ctor;
+ghost use Rattle.dt_type.specs.declared.fault.FlattenFault.TheVariants as flatten;
+
+use dt_kinds::NoMemory;
+use std::alloc::{AllocError, AllocFailed};
 use thiserror::Error;
 
 /// Why no datatype is made of some arguments. Where several causes hold, the first of the list is answered.
@@ -42,4 +51,52 @@ pub enum ChildFault {
     NoSuchChild,
     #[error("memory ran out")]
     NoMemory,
+}
+
+impl From<NoMemory> for CtorFault {
+    ghost from_gives = { λ _ fault. fault ≡ ctor.NoMemory };
+
+    fn from(_error: NoMemory) -> CtorFault {
+        CtorFault::NoMemory
+    }
+}
+
+impl From<AllocError> for CtorFault {
+    ghost from_gives = { λ _ fault. fault ≡ ctor.NoMemory };
+
+    fn from(_error: AllocError) -> CtorFault {
+        CtorFault::NoMemory
+    }
+}
+
+impl<T: Drop> From<AllocFailed<T>> for CtorFault {
+    ghost from_gives = { λ _ fault. fault ≡ ctor.NoMemory };
+
+    fn from(_error: AllocFailed<T>) -> CtorFault {
+        CtorFault::NoMemory
+    }
+}
+
+impl From<NoMemory> for FlattenFault {
+    ghost from_gives = { λ _ fault. fault ≡ flatten.NoMemory };
+
+    fn from(_error: NoMemory) -> FlattenFault {
+        FlattenFault::NoMemory
+    }
+}
+
+impl From<NoMemory> for ContentsFault {
+    ghost from_gives = { λ _ fault. fault ≡ contents.NoMemory };
+
+    fn from(_error: NoMemory) -> ContentsFault {
+        ContentsFault::NoMemory
+    }
+}
+
+impl From<NoMemory> for ChildFault {
+    ghost from_gives = { λ _ fault. fault ≡ child.NoMemory };
+
+    fn from(_error: NoMemory) -> ChildFault {
+        ChildFault::NoMemory
+    }
 }

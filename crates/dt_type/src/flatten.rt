@@ -133,9 +133,7 @@ impl Datatype {
         if self.bounds().elements > max {
             return Err(FlattenFault::TooMany);
         }
-        let Ok(entries) = self.listed(alloc) else {
-            return Err(FlattenFault::NoMemory);
-        };
+        let entries = self.listed(alloc)?;
         Ok(FlatMap::new(entries, self.marks()).unwrap())
     }
 }

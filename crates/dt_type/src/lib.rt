@@ -2,15 +2,13 @@
 #![tactic(auto)]
 
 mod child;
-mod columns;
-pub mod contents;
+mod contents;
 pub mod datatype;
 mod digest;
 mod entries;
-pub mod envelope;
+mod envelope;
 pub mod fault;
 mod flatten;
-pub mod form;
 pub mod laws;
 mod make;
 mod measures;
@@ -18,9 +16,10 @@ mod range;
 pub mod shape;
 mod span;
 
-pub use contents::{Contents, ContentsOf};
-pub use datatype::{Datatype, Seen};
-pub use envelope::{Combiner, Envelope};
+pub use datatype::{Contents, Datatype, Form, Part, Seen};
+pub use dt_form::{
+    AddrBlock, Combiner, ContentsOf, Dist, DistDim, Envelope, FormOf, IntBlock, Order, PartOf,
+    SubDim,
+};
 pub use fault::{ChildFault, ContentsFault, CtorFault, FlattenFault};
-pub use form::{AddrBlock, Dist, DistDim, Form, FormOf, IntBlock, Order, Part, PartOf, SubDim};
 pub use shape::{Cover, Shape, ShapeOf, ShapePart, ShapePartOf, Spot, Turns};

@@ -1,16 +1,14 @@
 //! The door through which every derived datatype comes.
-ghost use Rattle.std.specs.Prelude.{◌≡◌, ◌≤◌, ◌<◌, ◌↔◌, IfOk, IsErrOf, MatchResult};
+ghost use Rattle.std.specs.Prelude.{◌≡◌, IsErrOf, MatchResult};
+ghost use Rattle.dt_type.specs.Answer.{IsAllowed, IsAnswer};
 ghost use Rattle.dt_type.specs.Conditions.{HasNumbers, IsShapeFor};
-ghost use Rattle.dt_type.specs.Datatype.{IsInRange};
-ghost use Rattle.dt_type.specs.Form as spec;
-ghost use Rattle.dt_type.specs.Form.{result_of, map_by};
+ghost use Rattle.dt_type.specs.Form.{map_by};
 ghost use Rattle.dt_type.specs.Measure.{IsMeasure, IsRefusal};
 ghost use Rattle.dt_type.specs.Shape.{placed_by, covered, covered_marks};
 
-use crate::datatype::{Datatype, Node};
+use crate::datatype::{Datatype, Form, Node};
 use crate::digest::{Digest, of_shape, wide};
 use crate::fault::CtorFault;
-use crate::form::Form;
 use crate::measures::{depth_by, weight_by};
 use crate::range::{bounds_from, narrow_marks};
 use crate::shape::{Cover, Shape};
@@ -18,9 +16,10 @@ use crate::span::Span;
 use dt_map::{Bounds, Marks};
 use std::alloc::Global;
 
-/// The greatest depth and the greatest weight of a datatype.
+/// The greatest depth of a datatype.
 const DEPTH_MAX: u64 = 64;
 
+/// The greatest weight of a datatype.
 const WEIGHT_MAX: u64 = 65_536;
 
 /// The marks that a cover leaves.
@@ -70,8 +69,8 @@ fn measured(shape: &Shape, cover: Cover, form: &Form) -> Result<Measure, CtorFau
 
 impl Datatype {
     /// The datatype of a form, from a shape and a cover that place what the form says. `Overflow` where a bound or the size is out
-    /// of range; else `TooDeep` above 64 levels; else `TooHeavy` above a weight of 65,536. The time is that of reading the shape and
-    /// the form, however many entries they place.
+    /// of range; else `TooDeep` above 64 levels; else `TooHeavy` above a weight of 65,536. Memory is wanted only where none of these
+    /// holds. The time is that of reading the shape and the form, however many entries they place.
     pub fn make(
         alloc: Global,
         shape: Shape,
@@ -80,34 +79,23 @@ impl Datatype {
     ) -> Result<Datatype, CtorFault>
         requires shape { IsShapeFor shape form }
         requires places { covered cover (placed_by shape) ≡ map_by form }
-        ensures made { IfOk result (λ t. t ≡ result_of form) }
-        ensures overflow { IsErrOf result CtorFault.Overflow ↔ ¬ IsInRange (map_by form) }
-        ensures too_deep { IsErrOf result CtorFault.TooDeep ↔ IsInRange (map_by form) × (64 < spec.depth_by form) }
-        ensures too_heavy { IsErrOf result CtorFault.TooHeavy ↔ IsInRange (map_by form) × (spec.depth_by form ≤ 64) × (65536 < spec.weight_by form) }
-        ensures arguments { ¬ IsErrOf result CtorFault.BadArgument }
+        ensures answer { IsAnswer form result }
+        ensures memory { IsErrOf result CtorFault.NoMemory → IsAllowed form }
     {
-        match measured(&shape, cover, &form) {
-            Err(fault) => Err(fault),
-            Ok(measure) => {
-                let Measure {
-                    marks,
-                    bounds,
-                    weight,
-                    depth,
-                } = measure;
-                let node = Node {
-                    shape,
-                    form,
-                    marks,
-                    bounds,
-                    weight,
-                    depth,
-                };
-                match Datatype::of_node(alloc, node) {
-                    Ok(made) => Ok(made),
-                    Err(_) => Err(CtorFault::NoMemory),
-                }
-            }
-        }
+        let Measure {
+            marks,
+            bounds,
+            weight,
+            depth,
+        } = measured(&shape, cover, &form)?;
+        let node = Node {
+            shape,
+            form,
+            marks,
+            bounds,
+            weight,
+            depth,
+        };
+        Ok(Datatype::of_node(alloc, node)?)
     }
 }

@@ -1,39 +1,13 @@
 //! How heavy and how deep a form makes its datatype.
 ghost use Rattle.std.specs.Prelude.{◌≡◌, map};
 ghost use Rattle.std.specs.List.{sum_by};
+ghost use Rattle.dt_form.specs.Form.{olds_of};
 ghost use Rattle.dt_type.specs.Datatype.{weight_of};
 ghost use Rattle.dt_type.specs.Form as spec;
 ghost use Rattle.dt_type.specs.Reach.{capped};
 
-use crate::form::{Form, FormOf, Part};
-
-/// How many blocks, displacements, parts or dimensions the arguments list.
-fn items_of(form: &Form) -> usize
-    ensures { result ≡ spec.items_of form.now }
-{
-    match form {
-        FormOf::Named(_) | FormOf::Dup { .. } | FormOf::Resized { .. } => 0,
-        FormOf::Contiguous { .. } | FormOf::Vector { .. } | FormOf::Hvector { .. } => 1,
-        FormOf::Indexed { blocks, .. } => blocks.len(),
-        FormOf::Hindexed { blocks, .. } => blocks.len(),
-        FormOf::IndexedBlock { disps, .. } => disps.len(),
-        FormOf::HindexedBlock { disps, .. } => disps.len(),
-        FormOf::Struct { parts } => parts.len(),
-        FormOf::Subarray { dims, .. } => dims.len(),
-        FormOf::Darray { dims, .. } => dims.len(),
-    }
-}
-
-/// The levels that a constructor puts above its old types.
-fn levels_of(form: &Form) -> usize
-    ensures { result ≡ spec.levels_of form.now }
-{
-    match form {
-        FormOf::Subarray { dims, .. } => dims.len(),
-        FormOf::Darray { dims, .. } => dims.len(),
-        _ => 1,
-    }
-}
+use crate::datatype::{Form, Part};
+use dt_form::FormOf;
 
 /// The weights of the old types of parts, up to the greatest `u64`.
 fn weight_of_parts(parts: &[Part]) -> u64
@@ -59,7 +33,7 @@ fn depth_of_parts(parts: &[Part]) -> u32
 
 /// The weights of the old types, up to the greatest `u64`.
 fn weight_of_olds(form: &Form) -> u64
-    ensures { result ≡ capped (sum_by weight_of (spec.olds_of form.now)) }
+    ensures { result ≡ capped (sum_by weight_of (olds_of form.now)) }
 {
     match form {
         FormOf::Named(_) => 0,
@@ -80,7 +54,7 @@ fn weight_of_olds(form: &Form) -> u64
 
 /// The depth of the deepest old type.
 fn depth_of_olds(form: &Form) -> u32
-    ensures { result ≡ spec.deepest (spec.olds_of form.now) }
+    ensures { result ≡ spec.deepest (olds_of form.now) }
 {
     match form {
         FormOf::Named(_) => 0,
@@ -103,7 +77,7 @@ fn depth_of_olds(form: &Form) -> u32
 pub(crate) fn weight_by(form: &Form) -> u64
     ensures { result ≡ capped (spec.weight_by form.now) }
 {
-    let items = items_of(form) as u64;
+    let items = form.items() as u64;
     items.saturating_add(1).saturating_add(weight_of_olds(form))
 }
 
@@ -111,6 +85,6 @@ pub(crate) fn weight_by(form: &Form) -> u64
 pub(crate) fn depth_by(form: &Form) -> u64
     ensures { result ≡ capped (spec.depth_by form.now) }
 {
-    let levels = levels_of(form) as u64;
+    let levels = form.levels() as u64;
     levels.saturating_add(u64::from(depth_of_olds(form)))
 }

@@ -10,12 +10,12 @@ returns-in_err-turns c =
     let extent = to_z-of_z w128 c.extent_of.result (record { sfits = c.extent_of.type_inv }) in
     rw (p.1, p.2) (refused c.args.order c.args.dims.items c.args.old.now c.args.old.now c.args.form _ _ c.requires.form extent c.extent_of.ensures _ c.in_err-turns.ensures)
 
-pub built-requires-clause-shape : goal.built-requires-clause-shape
-built-requires-clause-shape c =
+pub make-requires-clause-shape : goal.make-requires-clause-shape
+make-requires-clause-shape c =
     let extent = to_z-of_z w128 c.extent_of.result (record { sfits = c.extent_of.type_inv }) in
-    shape_for c.args.order c.args.dims.items c.args.old.now _ c.args.form _ _ c.requires.form extent c.extent_of.ensures c.in_ok-turns.field-0 c.requires.inside c.in_ok-shared.ensures c.in_ok-turns.ensures
+    shape_for c.args.order c.args.dims.items c.args.old.now _ c.args.form _ _ c.requires.form extent c.extent_of.ensures c.in_ok-turns.field-0 c.requires.inside c.in_ok-share.ensures c.in_ok-turns.ensures
 
-pub built-requires-clause-places : goal.built-requires-clause-places
-built-requires-clause-places c =
+pub make-requires-clause-places : goal.make-requires-clause-places
+make-requires-clause-places c =
     let extent = to_z-of_z w128 c.extent_of.result (record { sfits = c.extent_of.type_inv }) in
-    places c.args.order c.args.dims.items c.args.old.now _ c.args.form _ _ c.requires.form extent c.extent_of.ensures c.in_ok-turns.field-0 c.in_ok-shared.ensures c.in_ok-turns.ensures
+    places c.args.order c.args.dims.items c.args.old.now _ c.args.form _ _ c.requires.form extent c.extent_of.ensures c.in_ok-turns.field-0 c.in_ok-share.ensures c.in_ok-turns.ensures

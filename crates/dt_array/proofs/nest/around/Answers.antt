@@ -21,7 +21,7 @@ loop-dim-preserved c =
     let dims = c.args.dims.now in
     let unit = narrowed _ _ c.in_ok-unit.ensures in
     record {
-      turns = turns_step _ dims c.loop-dim.dim-index _ c.loop-dim-test.true _ _ _ _ _ c.loop-dim.invariant.turns c.loop-dim.invariant.span unit c.turns_of.ensures c.in-Ok.ensures.items;
+      turns = turns_step _ dims c.loop-dim.dim-index _ c.loop-dim-test.true _ _ _ _ _ c.loop-dim.invariant.turns c.loop-dim.invariant.span unit c.turns_of.ensures c.in_ok-push.ensures.items;
       span =
           to_z-of_z w128 c.units-span.result (record { sfits = c.units-span.type_inv })
           ∙ span_step _ dims c.loop-dim.dim-index _ c.loop-dim-test.true _ _ _ c.loop-dim.invariant.span unit c.units-span.ensures;

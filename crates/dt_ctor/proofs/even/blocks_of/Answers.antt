@@ -17,4 +17,4 @@ returns c =
     let offsets : turn_offsets c.turns_of-each.result ≡ hvector_offsets (nat_abs c.args.count) (nat_abs c.args.block) c.args.jump (extent_of (typemap_of c.args.old.now)) =
     c.turns_of-each.ensures.offsets
     ∙ same_blocks _ _ _ _ _ _ _ _ (c.unsigned_abs.ensures.value ∙ count) (c.unsigned_abs-2.ensures.value ∙ block) jump (extent ∙ c.extent_of.ensures.value) in
-    placed c.turns_of-each.result c.in-Ok.turns c.args.count c.args.block c.args.jump c.args.old.now c.in_ok-shared.field-0 c.turns_of-each.ensures.numbers offsets c.in-Ok.ensures c.in_ok-shared.ensures
+    placed c.turns_of-each.result c.in_ok-from_slice.field-0 c.args.count c.args.block c.args.jump c.args.old.now c.in_ok-share.field-0 c.turns_of-each.ensures.numbers offsets c.in_ok-from_slice.ensures c.in_ok-share.ensures

@@ -1,4 +1,5 @@
-use Rattle.dt_ctor.proofs.Answers.{again, placed_again}
+use Rattle.dt_type.proofs.Answers.{again}
+use Rattle.dt_ctor.proofs.Places.{placed_again}
 use Rattle.dt_ctor.proofs.parts.structure.Goals as goal
 
 pub built-requires-clause-places : goal.built-requires-clause-places

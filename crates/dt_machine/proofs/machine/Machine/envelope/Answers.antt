@@ -1,7 +1,7 @@
 use Rattle.std.proofs.Common.{refl, ap, ◌∙◌}
 use Rattle.dt_reply.specs.declared.reply.Reply.TheVariants.{Described}
 use Rattle.dt_script.specs.declared.command.Command.TheVariants.{Envelope}
-use Rattle.dt_type.specs.Contents.{envelope_of}
+use Rattle.dt_form.specs.Contents.{envelope_of}
 use Rattle.dt_type.specs.Datatype.{form_of}
 use Rattle.dt_machine.proofs.Operations.{envelope_allowed, envelope_missing}
 use Rattle.dt_machine.proofs.Outcomes.{told_outcome}

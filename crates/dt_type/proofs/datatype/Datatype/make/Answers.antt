@@ -1,11 +1,8 @@
-use Rattle.std.proofs.Common.{subst}
-use Rattle.dt_map.specs.Typemap.{Marked}
-use Rattle.dt_type.specs.Form.{map_by}
-use Rattle.dt_type.specs.Measure.{IsRefusal}
-use Rattle.dt_type.proofs.Refusals.{overflow_only}
+use Rattle.std.proofs.lemmas.Result.{err_from_is_err_and}
+use Rattle.dt_type.proofs.Answers.{refused}
 use Rattle.dt_type.proofs.datatype.Datatype.make.Goals as goal
 
-pub returns-in-Err-clause-overflow : goal.returns-in-Err-clause-overflow
-returns-in-Err-clause-overflow c =
-    overflow_only (map_by c.args.form) c.args.form c.in-Err.fault
-    (subst (λ (m : Marked). IsRefusal m c.args.form c.in-Err.fault) c.requires.places c.in-Err.ensures)
+pub returns-in_err-marks-clause-answer : goal.returns-in_err-marks-clause-answer
+returns-in_err-marks-clause-answer c =
+    let p = err_from_is_err_and c.from_residual.result c.from_residual.ensures.1 in
+    rw (p.1, p.2) (refused _ c.args.form _ c.requires.places c.requires.shape.arguments c.in_err-marks.ensures)
