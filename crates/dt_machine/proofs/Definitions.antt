@@ -34,7 +34,7 @@ use Rattle.dt_script.specs.Olds.{any_old}
 use Rattle.dt_machine.specs.Outcome.{CanChange, IsStop, changed, stop_by}
 use Rattle.dt_machine.specs.Refusal.{new_type_row, conditions, IsRefusedBy, IsAllowed, NoMoreTypes}
 use Rattle.dt_machine.specs.Row.{Row, IsFirst, IsClear}
-use Rattle.dt_machine.specs.State.{State, type_of, old_of, is_unknown, is_type_taken, with_type, counted}
+use Rattle.dt_machine.specs.State.{State, type_of, old_of, is_unknown, is_type_taken, with_type, with_count}
 use Rattle.dt_machine.specs.Step.{Performs}
 use Rattle.dt_machine.proofs.NamedTypes.{can_make, free_under, names_free}
 use Rattle.dt_machine.proofs.Rows.{refused, allowed, behind_three, first_front}
@@ -258,6 +258,6 @@ module _ (s : State) (name : List ℕ) (ctor : Ctor) where
 
     -- the new type stands
     pub define_performs : (t : Seen) (committed : Bool) → IsAnswerIn s ctor (Ok t) → committed ≡ is_committed_by s ctor
-        → Performs define s Done (counted (changed (AddType name (record { ty = t; committed = committed })) s))
+        → Performs define s Done (with_count (changed (AddType name (record { ty = t; committed = committed })) s))
     define_performs t committed (form, is, made) flag =
-        (form, is, refl, ap (λ kept. counted (with_type s name kept)) (rw (made.value, flag) refl))
+        (form, is, refl, ap (λ kept. with_count (with_type s name kept)) (rw (made.value, flag) refl))

@@ -25,7 +25,7 @@ use Rattle.dt_names.specs.declared.kept.Kept.{Kept}
 use Rattle.dt_machine.specs.Outcome.{CanChange, IsStop, changed}
 use Rattle.dt_machine.specs.Refusal.{new_type_row, conditions, IsRefusedBy, IsAllowed, LacksChild, NoMoreTypes}
 use Rattle.dt_machine.specs.Row.{◌when◌, IsFirst, IsClear}
-use Rattle.dt_machine.specs.State.{State, type_of, is_unknown, is_basic_word, is_type_taken, counted}
+use Rattle.dt_machine.specs.State.{State, type_of, is_unknown, is_basic_word, is_type_taken, with_count}
 use Rattle.dt_machine.specs.Step.{Performs}
 use Rattle.dt_machine.proofs.Rows.{refused, allowed, behind_three, first_front, contrary, some_and, and_some}
 use Rattle.dt_machine.proofs.Operations.{basic_by}
@@ -63,11 +63,11 @@ pub commit_allowed : (s : State) (ty : List ℕ) (kept : Kept) → type_of s ty 
 commit_allowed s ty kept is = allowed s (Commit ty) (is_known s ty kept is, (is_supported s ty kept is, tt))
 
 pub commit_basic : (s : State) (ty : List ℕ) (kept : Kept) → type_of s ty ≡ Some kept → begins_with_mpi ty ≡ true
-    → Performs (Commit ty) s Done (counted (changed change.Nothing s))
+    → Performs (Commit ty) s Done (with_count (changed change.Nothing s))
 commit_basic s ty kept is reserved = (kept, is, refl, rw reserved refl)
 
 pub commit_plain : (s : State) (ty : List ℕ) (kept : Kept) → type_of s ty ≡ Some kept → begins_with_mpi ty ≡ false
-    → CanChange (change.Commit ty) s × Performs (Commit ty) s Done (counted (changed (change.Commit ty) s))
+    → CanChange (change.Commit ty) s × Performs (Commit ty) s Done (with_count (changed (change.Commit ty) s))
 commit_plain s ty kept is plain =
     let stands : under ty s.types ≡ Some kept = sym (plain_under s.types ty plain) ∙ is in
     (rw stands refl, (kept, is, refl, rw (plain, stands) refl))

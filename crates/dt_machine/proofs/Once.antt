@@ -23,7 +23,7 @@ use Rattle.dt_names.specs.declared.kept.Kept.{Kept}
 use Rattle.dt_machine.specs.Answers.{Run, Answers, text_of_all, are_accepted}
 use Rattle.dt_machine.specs.Made.{form_in, is_committed_by}
 use Rattle.dt_machine.specs.Refusal.{elements_of, IsRefusedBy}
-use Rattle.dt_machine.specs.State.{State, first_state, type_of, buffer_of, with_type, with_committed, counted}
+use Rattle.dt_machine.specs.State.{State, first_state, type_of, buffer_of, with_type, with_committed, with_count}
 use Rattle.dt_machine.specs.Step.{Performs, Obeys, Meets, Step}
 
 -- one reply and one state
@@ -40,25 +40,25 @@ by_one found to of reply other t u (x, a, b, c) (y, d, e, f) =
 
 performs_one : (command : Command) (s t u : State) (reply other : Reply) → Performs command s reply t → Performs command s other u → IsOne reply other t u
 performs_one (Define name ctor) s t u reply other p q =
-    by_one (form_in s ctor) (λ _. Done) (λ form. counted (with_type s name (record { ty = result_of form; committed = is_committed_by s ctor }))) reply other t u p q
+    by_one (form_in s ctor) (λ _. Done) (λ form. with_count (with_type s name (record { ty = result_of form; committed = is_committed_by s ctor }))) reply other t u p q
 performs_one (Child name ty k) s t u reply other (kept, old, a, b, c, d) (kept2, old2, e, f, g, h) =
     let both : Some kept ≡ Some kept2 = sym a ∙ e in
     let same : kept ≡ kept2 = cc in
     let olds : Some old ≡ Some old2 = sym b ∙ (ap (λ (x : Kept). old_at (olds_of (form_of x.ty)) k) same ∙ f) in
     let one : old ≡ old2 = cc in
-    (c ∙ sym g, d ∙ (ap (λ o. counted (with_type s name (record { ty = o; committed = is_basic o }))) one ∙ sym h))
+    (c ∙ sym g, d ∙ (ap (λ o. with_count (with_type s name (record { ty = o; committed = is_basic o }))) one ∙ sym h))
 performs_one (Commit ty) s t u reply other p q =
-    by_one (type_of s ty) (λ _. Done) (λ kept. counted (cond (begins_with_mpi ty) s (with_committed s ty kept))) reply other t u p q
+    by_one (type_of s ty) (λ _. Done) (λ kept. with_count (cond (begins_with_mpi ty) s (with_committed s ty kept))) reply other t u p q
 performs_one (Free ty) s t u reply other p q = (p.0 ∙ sym q.0, p.1 ∙ sym q.1)
 performs_one (Info ty) s t u reply other p q =
-    by_one (type_of s ty) (λ kept. Told (bounds_of (typemap_of kept.ty)) kept.committed) (λ _. counted s) reply other t u p q
-performs_one (Map ty) s t u reply other p q = by_one (type_of s ty) (λ kept. Listed (typemap_of kept.ty)) (λ _. counted s) reply other t u p q
+    by_one (type_of s ty) (λ kept. Told (bounds_of (typemap_of kept.ty)) kept.committed) (λ _. with_count s) reply other t u p q
+performs_one (Map ty) s t u reply other p q = by_one (type_of s ty) (λ kept. Listed (typemap_of kept.ty)) (λ _. with_count s) reply other t u p q
 performs_one (Envelope ty) s t u reply other p q =
-    by_one (type_of s ty) (λ kept. Described (envelope_of (form_of kept.ty))) (λ _. counted s) reply other t u p q
+    by_one (type_of s ty) (λ kept. Described (envelope_of (form_of kept.ty))) (λ _. with_count s) reply other t u p q
 performs_one (Contents ty) s t u reply other p q =
-    by_one (type_of s ty) (λ kept. Contained (contents_of (form_of kept.ty))) (λ _. counted s) reply other t u p q
+    by_one (type_of s ty) (λ kept. Contained (contents_of (form_of kept.ty))) (λ _. with_count s) reply other t u p q
 performs_one (Buffer name fill) s t u reply other p q = (p.0 ∙ sym q.0, p.1 ∙ sym q.1)
-performs_one (Show buffer) s t u reply other p q = by_one (buffer_of s buffer) Shown (λ _. counted s) reply other t u p q
+performs_one (Show buffer) s t u reply other p q = by_one (buffer_of s buffer) Shown (λ _. with_count s) reply other t u p q
 performs_one (Bytes rep count ty buffer origin) s t u reply other (kept, held, a, b, c, d) (kept2, held2, e, f, g, h) =
     let both : Some kept ≡ Some kept2 = sym a ∙ e in
     let same : kept ≡ kept2 = cc in

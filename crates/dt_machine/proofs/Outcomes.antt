@@ -9,11 +9,11 @@ use Rattle.dt_machine.specs.declared.outcome.Change.TheVariants.{Nothing}
 use Rattle.dt_machine.specs.declared.outcome.Outcome.{Outcome}
 use Rattle.dt_machine.specs.Outcome.{IsOutcome, CanChange, changed}
 use Rattle.dt_machine.specs.Refusal.{IsAllowed}
-use Rattle.dt_machine.specs.State.{State, counted}
+use Rattle.dt_machine.specs.State.{State, with_count}
 use Rattle.dt_machine.specs.Step.{Performs}
 
 -- the answer to a question
-pub told_outcome : (s : State) (command : Command) (reply : Reply) (o : Outcome) → IsAllowed s command → Performs command s reply (counted s)
+pub told_outcome : (s : State) (command : Command) (reply : Reply) (o : Outcome) → IsAllowed s command → Performs command s reply (with_count s)
     → is_accepted reply ≡ true → o ≡ record { reply = reply; change = Nothing } → IsOutcome s command o
 told_outcome s command reply o all does good is =
     let made : IsOutcome s command (record { reply = reply; change = Nothing }) = record { allowed = all; can_change = tt; performs = does; accepted = good } in
@@ -21,7 +21,7 @@ told_outcome s command reply o all does good is =
 
 -- the change of a command that replies `ok`
 pub done_outcome : (s : State) (command : Command) (change : Change) (o : Outcome) → IsAllowed s command → CanChange change s
-    → Performs command s Done (counted (changed change s)) → o ≡ record { reply = Done; change = change } → IsOutcome s command o
+    → Performs command s Done (with_count (changed change s)) → o ≡ record { reply = Done; change = change } → IsOutcome s command o
 done_outcome s command change o all can does is =
     let made : IsOutcome s command (record { reply = Done; change = change }) = record { allowed = all; can_change = can; performs = does; accepted = refl } in
     subst (λ o. IsOutcome s command o) (sym is) made

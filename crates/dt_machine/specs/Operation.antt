@@ -1,4 +1,4 @@
--- What keeps the packed bytes of an operation from being printed, by its type and the length of its buffer.
+-- What keeps the packed bytes of an operation from being printed, by its type and the length of its buffer. No public clause cites this module.
 use Rattle.std.specs.Prelude.{ℕ, ◌<◌, ℤ, pos, nat_abs, int_lt, IsTrue, IsFalse, [], ◌∷◌}
 use Rattle.dt_kinds.specs.declared.kind.Rep.{Rep}
 use Rattle.dt_map.specs.Elements.{elements, are_inside}

@@ -1,4 +1,4 @@
--- What a command comes to before anything changes.
+-- What a command comes to before anything changes. No public clause cites this module.
 use Rattle.std.specs.Prelude.{◌≡◌, true, false, IsTrue, List, ℕ, ◌<◌, Option, Some, None, IsSome, Result, MatchResult}
 use Rattle.dt_kinds.specs.Name.{is_left_out}
 use Rattle.dt_reply.specs.declared.refusal.Refusal.{Refusal}
@@ -15,7 +15,7 @@ use Rattle.dt_names.specs.declared.stop.Stop.{Stop}
 use Rattle.dt_names.specs.declared.stop.Stop.TheVariants.{Refused, NoMemory}
 use Rattle.dt_names.specs.declared.kept.Kept.{Kept}
 use Rattle.dt_machine.specs.Refusal.{IsRefusedBy, IsAllowed}
-use Rattle.dt_machine.specs.State.{State, is_unknown, with_type, with_committed, without_type, with_buffer, counted}
+use Rattle.dt_machine.specs.State.{State, is_unknown, with_type, with_committed, without_type, with_buffer, with_count}
 use Rattle.dt_names.specs.Names.{under}
 use Rattle.dt_machine.specs.Step.{Performs}
 
@@ -45,7 +45,7 @@ CanChange (AddBuffer name bytes) s = Unit {0}
 pub record IsOutcome (s : State) (command : Command) (o : Outcome) : Type 0 where
   pub allowed : IsAllowed s command
   pub can_change : CanChange o.change s
-  pub performs : Performs command s o.reply (counted (changed o.change s))
+  pub performs : Performs command s o.reply (with_count (changed o.change s))
   pub accepted : IsTrue (is_accepted o.reply)
 
 -- why it stops: a refusal, or want of memory, which is tied to nothing

@@ -71,5 +71,5 @@ abbrev pub with_buffer : State → List ℕ → List ℕ → State
 with_buffer s name bytes = record s { buffers = insert_entry (slice_cmp nat_cmp) s.buffers name bytes }
 
 -- one more command was accepted
-abbrev pub counted : State → State
-counted s = record s { totals = record s.totals { commands = min (s.totals.commands + 1) (2 ^ 64 - 1) } }
+abbrev pub with_count : State → State
+with_count s = record s { totals = record s.totals { commands = min (s.totals.commands + 1) (2 ^ 64 - 1) } }

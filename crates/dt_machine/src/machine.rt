@@ -2,7 +2,7 @@ ghost use Rattle.std.specs.Prelude.{◌≡◌, ◌↔◌, ◌++◌, IsTrue, true
 ghost use Rattle.std.specs.Option.{option_map_or};
 ghost use Rattle.dt_machine.specs.Outcome.{CanChange, ComesTo, changed};
 ghost use Rattle.dt_names.specs.Missing.{IsMissing};
-ghost use Rattle.dt_machine.specs.State.{first_state, type_of, buffer_of, is_unknown, is_basic_word, is_type_taken, is_buffer_taken, bytes_held, counted};
+ghost use Rattle.dt_machine.specs.State.{first_state, type_of, buffer_of, is_unknown, is_basic_word, is_type_taken, is_buffer_taken, bytes_held, with_count};
 ghost use Rattle.dt_names.specs.Names.{under};
 ghost use Rattle.dt_machine.specs.Refusal.{NoMoreTypes};
 ghost use Rattle.dt_names.specs.Found.{IsFoundType};
@@ -150,7 +150,7 @@ impl Machine {
     /// Makes a change, and counts the command.
     fn change(&mut self, change: Change) -> Result<(), NoMemory>
         requires { CanChange change self.old }
-        ensures ok { OnOk result (self.new ≡ counted (changed change self.old)) }
+        ensures ok { OnOk result (self.new ≡ with_count (changed change self.old)) }
         ensures err { OnErr result (self.new ≡ self.old) }
     {
         match change {
@@ -167,7 +167,7 @@ impl Machine {
     /// Replies to a command that is allowed, and makes its change. The line is written before anything changes.
     fn perform(&mut self, outcome: Outcome, out: &mut Vec<u8>) -> Result<bool, NoMemory>
         requires { CanChange outcome.change self.old }
-        ensures ok { IfOk result (λ accepted. (accepted ≡ true) × (self.new ≡ counted (changed outcome.change self.old)) × (out.new.items ≡ out.old.items ++ text_of outcome.reply)) }
+        ensures ok { IfOk result (λ accepted. (accepted ≡ true) × (self.new ≡ with_count (changed outcome.change self.old)) × (out.new.items ≡ out.old.items ++ text_of outcome.reply)) }
         ensures err { OnErr result ((self.new ≡ self.old) × (out.new.items ≡ out.old.items)) }
     {
         let Outcome { reply, change } = outcome;

@@ -1,4 +1,4 @@
--- The types that stand, and how many were made.
+-- The types that stand, and how many were made. Private functions and proofs alone cite this module, but for the model of `Types`.
 use Rattle.std.specs.Prelude.{◌≡◌, ◌≢◌, ℕ, ◌+◌, true, List, [], ◌∷◌, length, Some, Option, MatchOption, None, IsSome}
 use Rattle.std.specs.BTreeMap.{is_at, insert_entry}
 use Rattle.std.specs.Cmp.Lexicographic.{slice_cmp}
