@@ -7,8 +7,9 @@ use Rattle.std.specs.List.{list_any}
 use Rattle.std.specs.Option.{option_map, option_and_then, is_none}
 use Rattle.dt_type.specs.Answer.{IsCause, IsAnswer}
 use Rattle.dt_kinds.specs.Name.{is_left_out}
+use Rattle.dt_reply.specs.declared.refusal.Refusal.{Refusal}
 use Rattle.dt_reply.specs.declared.refusal.Refusal.TheVariants as refusal
-use Rattle.dt_reply.specs.Reply.{Done}
+use Rattle.dt_reply.specs.declared.reply.Reply.TheVariants.{Done}
 use Rattle.dt_script.specs.declared.command.Command.{Command}
 use Rattle.dt_script.specs.declared.command.Command.TheVariants.{Define}
 use Rattle.dt_script.specs.declared.command.Ctor.{Ctor}
@@ -28,14 +29,16 @@ use Rattle.dt_form.specs.declared.form.Order.{Order}
 use Rattle.dt_form.specs.declared.form.PartOf.{PartOf}
 use Rattle.dt_form.specs.declared.form.SubDim.{SubDim}
 use Rattle.dt_machine.specs.declared.outcome.Change.TheVariants.{AddType}
-use Rattle.dt_machine.specs.Made.{any_old, part_in, parts_in, form_in, is_committed_by, IsFaultIn, IsAnswerIn}
-use Rattle.dt_machine.specs.Outcome.{AreFree, CanChange, changed}
-use Rattle.dt_machine.specs.Refusal.{IsRefusedBy, IsAllowed, NoMoreTypes}
-use Rattle.dt_machine.specs.State.{State, type_of, old_of, is_unknown, is_type_taken, with_type, counted}
+use Rattle.dt_machine.specs.Made.{part_in, parts_in, form_in, is_committed_by, IsFaultIn, IsAnswerIn}
+use Rattle.dt_script.specs.Olds.{any_old}
+use Rattle.dt_machine.specs.Outcome.{CanChange, IsStop, changed, stop_by}
+use Rattle.dt_machine.specs.Refusal.{new_type_row, conditions, IsRefusedBy, IsAllowed, NoMoreTypes}
+use Rattle.dt_machine.specs.Row.{Row, IsFirst, IsClear}
+use Rattle.dt_machine.specs.State.{State, type_of, old_of, is_unknown, is_type_taken, with_type, with_count}
 use Rattle.dt_machine.specs.Step.{Performs}
-use Rattle.dt_machine.proofs.Least.{IsClear, clear, allowed, contrary}
-use Rattle.dt_machine.proofs.NamedTypes.{can_make, free_under}
-use Rattle.dt_machine.proofs.TypeWords.{stands}
+use Rattle.dt_machine.proofs.NamedTypes.{can_make, free_under, names_free}
+use Rattle.dt_machine.proofs.Rows.{refused, allowed, behind_three, first_front}
+use Rattle.dt_names.proofs.WordLemmas.{stands}
 
 -- one more part
 abbrev joined : Option (PartOf Seen) → Option (List (PartOf Seen)) → Option (List (PartOf Seen))
@@ -75,22 +78,22 @@ all_stand s [] known supported = refl
 all_stand s (p ∷ parts) known supported =
     let k = or_parts (is_unknown s p.old) (list_any (λ p. is_unknown s p.old) parts) known in
     let o = or_parts (is_left_out p.old) (list_any (λ p. is_left_out p.old) parts) supported in
-    rw (stands s p.old k.0 o.0) (all_stand s parts k.1 o.1)
+    rw (stands s.types p.old k.0 o.0) (all_stand s parts k.1 o.1)
 
 pub olds_stand : (s : State) (ctor : Ctor) → any_old (is_unknown s) ctor ≡ false → any_old is_left_out ctor ≡ false
     → any_old (λ word. is_none (type_of s word)) ctor ≡ false
-olds_stand s (Contiguous count old) known supported = stands s old known supported
-olds_stand s (Vector count block stride old) known supported = stands s old known supported
-olds_stand s (Hvector count block stride old) known supported = stands s old known supported
-olds_stand s (Indexed old blocks) known supported = stands s old known supported
-olds_stand s (Hindexed old blocks) known supported = stands s old known supported
-olds_stand s (IndexedBlock old block disps) known supported = stands s old known supported
-olds_stand s (HindexedBlock old block disps) known supported = stands s old known supported
+olds_stand s (Contiguous count old) known supported = stands s.types old known supported
+olds_stand s (Vector count block stride old) known supported = stands s.types old known supported
+olds_stand s (Hvector count block stride old) known supported = stands s.types old known supported
+olds_stand s (Indexed old blocks) known supported = stands s.types old known supported
+olds_stand s (Hindexed old blocks) known supported = stands s.types old known supported
+olds_stand s (IndexedBlock old block disps) known supported = stands s.types old known supported
+olds_stand s (HindexedBlock old block disps) known supported = stands s.types old known supported
 olds_stand s (Struct parts) known supported = all_stand s parts known supported
-olds_stand s (Resized lb extent old) known supported = stands s old known supported
-olds_stand s (Dup old) known supported = stands s old known supported
-olds_stand s (Subarray order old dims) known supported = stands s old known supported
-olds_stand s (Darray size rank order old dims) known supported = stands s old known supported
+olds_stand s (Resized lb extent old) known supported = stands s.types old known supported
+olds_stand s (Dup old) known supported = stands s.types old known supported
+olds_stand s (Subarray order old dims) known supported = stands s.types old known supported
+olds_stand s (Darray size rank order old dims) known supported = stands s.types old known supported
 
 -- the answer of the constructor for the form is its answer over the types that stand
 pub answers_in : (s : State) (ctor : Ctor) (form : FormOf Seen) (answer : Result Seen CtorFault) → form_in s ctor ≡ Some form
@@ -174,37 +177,79 @@ module _ (s : State) (name : List ℕ) (ctor : Ctor) where
   abbrev define : Command
   define = Define name ctor
 
-  define_clear : (n : ℕ) → (2 < n → any_old (is_unknown s) ctor ≡ false) → (3 < n → is_type_taken s name ≡ false) → (4 < n → any_old is_left_out ctor ≡ false)
-      → (9 < n → ¬ IsFaultIn s ctor fault.BadArgument) → (10 < n → ¬ IsFaultIn s ctor fault.Overflow) → (11 < n → ¬ IsFaultIn s ctor fault.TooDeep)
-      → (12 < n → ¬ IsFaultIn s ctor fault.TooHeavy) → (13 < n → ¬ NoMoreTypes s) → IsClear s define n
-  define_clear n known free supported taken range shallow light few =
-      clear s define n (λ _ h. h) (λ lt. contrary (any_old (is_unknown s) ctor) (known lt)) (λ lt. contrary (is_type_taken s name) (free lt))
-      (λ lt. contrary (any_old is_left_out ctor) (supported lt)) (λ _ h. h) (λ _ h. h) (λ _ h. h) taken range shallow light
-      few (λ _ h. h) (λ _ h. h) (λ _ h. h)
+  abbrev names_row : Row
+  names_row = new_type_row s name (any_old (is_unknown s) ctor) (any_old is_left_out ctor) []
+
+  pub define_names : (refusal : Refusal) → IsFirst names_row refusal → IsRefusedBy s define refusal
+  define_names refusal first = refused s define refusal (first_front names_row (behind_three (conditions s define)) refusal first)
 
   -- over one form, the fault of a greater number says that those of lesser numbers don't come
-  module _ (names : AreFree s name ctor) where
+  module _ (names : IsClear names_row) where
     no_fault : (form : FormOf Seen) → form_in s ctor ≡ Some form → (fault : CtorFault) → ¬ IsCause form fault → ¬ IsFaultIn s ctor fault
     no_fault form is fault none (other, same, cause) =
         let both : Some other ≡ Some form = sym same ∙ is in let one : other ≡ form = cc in none (subst (λ f. IsCause f fault) one cause)
 
+    -- the refusal that a fault stands for
+    pub define_fault : (fault : CtorFault) → IsAnswerIn s ctor (Err fault) → IsStop s define (stop_by fault)
+    define_fault fault.NoMemory is = tt
+    define_fault fault.BadArgument is = refused s define refusal.BadArgument (names.0, (names.1.0, (names.1.1.0, is)))
+    define_fault fault.Overflow (form, at, cause) =
+        refused s define refusal.Overflow
+        (names.0, (names.1.0, (names.1.1.0, (no_fault form at fault.BadArgument (λ n. n cause.0), (form, at, cause)))))
+    define_fault fault.TooDeep (form, at, cause) =
+        refused s define refusal.TooDeep
+        (names.0, (names.1.0, (names.1.1.0, (no_fault form at fault.BadArgument (λ n. n cause.0), (no_fault form at fault.Overflow (λ n. n.1 cause.1), (form, at, cause))))))
+    define_fault fault.TooHeavy (form, at, cause) =
+        refused s define refusal.TooHeavy (
+          names.0,
+          (
+            names.1.0,
+            (
+              names.1.1.0,
+              (
+                no_fault form at fault.BadArgument (λ n. n cause.0),
+                (
+                  no_fault form at fault.Overflow (λ n. n.1 cause.1),
+                  (
+                    no_fault form at fault.TooDeep (λ n. let low = cause.2 in let high = n.2 in absurd (omega (arith, low, high))),
+                    (form, at, cause),
+                  ),
+                ),
+              ),
+            ),
+          ),
+        )
+
     -- what no fault refuses
-    made_clear : (n : ℕ) (t : Seen) → IsAnswerIn s ctor (Ok t) → (13 < n → ¬ NoMoreTypes s) → IsClear s define n
-    made_clear n t (form, is, made) few =
-        define_clear n (λ _. names.known) (λ _. names.free) (λ _. names.supported) (λ _. no_fault form is fault.BadArgument (λ n. n made.arguments))
-        (λ _. no_fault form is fault.Overflow (λ n. n.1 made.in_range))
-        (λ _. no_fault form is fault.TooDeep (λ n. let low = made.shallow in let high = n.2 in absurd (omega (arith, low, high))))
-        (λ _. no_fault form is fault.TooHeavy (λ n. let low = made.light in let high = n.3 in absurd (omega (arith, low, high)))) few
+    module _ (t : Seen) (made : IsAnswerIn s ctor (Ok t)) where
+      abbrev Unfaulted : Type 0 → Type 0
+      Unfaulted A =
+          (¬ IsFaultIn s ctor fault.BadArgument) × ((¬ IsFaultIn s ctor fault.Overflow) × ((¬ IsFaultIn s ctor fault.TooDeep) × ((¬ IsFaultIn s ctor fault.TooHeavy) × A)))
 
-    pub define_many : (t : Seen) → IsAnswerIn s ctor (Ok t) → NoMoreTypes s → IsRefusedBy s define refusal.TooManyNames
-    define_many t made many = (many, made_clear 13 t made (λ lt. absurd (omega (arith, lt))))
+      unfaulted : {A : Type 0} → A → Unfaulted A
+      unfaulted a =
+          let (form, is, m) = made in (
+            no_fault form is fault.BadArgument (λ n. n m.arguments),
+            (
+              no_fault form is fault.Overflow (λ n. n.1 m.in_range),
+              (
+                no_fault form is fault.TooDeep (λ n. let low = m.shallow in let high = n.2 in absurd (omega (arith, low, high))),
+                (no_fault form is fault.TooHeavy (λ n. let low = m.light in let high = n.3 in absurd (omega (arith, low, high))), a),
+              ),
+            ),
+          )
 
-    pub define_allowed : (t : Seen) → IsAnswerIn s ctor (Ok t) → (¬ NoMoreTypes s) → IsAllowed s define
-    define_allowed t made few = allowed s define (made_clear 18 t made (λ _. few))
+      pub define_many : NoMoreTypes s → IsRefusedBy s define refusal.TooManyNames
+      define_many many = refused s define refusal.TooManyNames (names.0, (names.1.0, (names.1.1.0, unfaulted many)))
+
+      pub define_allowed : (¬ NoMoreTypes s) → IsAllowed s define
+      define_allowed few =
+          let last : (¬ NoMoreTypes s) × Unit {0} = (few, tt) in
+          allowed s define (names.0, (names.1.0, (names.1.1.0, unfaulted last)))
 
     pub define_can : (t : Seen) (committed : Bool) → IsAnswerIn s ctor (Ok t) → (¬ NoMoreTypes s) → CanChange (AddType name (record { ty = t; committed = committed })) s
     define_can t committed (form, is, made) more = (
-      free_under s name names.free,
+      free_under s name (names_free s name (any_old (is_unknown s) ctor) (any_old is_left_out ctor) names),
       can_make s more,
       λ basic.
           let derived : is_basic t ≡ false = ap is_basic made.value ∙ (ap (λ layer. is_named layer.form) (out-roll-Seen _) ∙ form_derived s ctor form is) in
@@ -213,6 +258,6 @@ module _ (s : State) (name : List ℕ) (ctor : Ctor) where
 
     -- the new type stands
     pub define_performs : (t : Seen) (committed : Bool) → IsAnswerIn s ctor (Ok t) → committed ≡ is_committed_by s ctor
-        → Performs define s Done (counted (changed (AddType name (record { ty = t; committed = committed })) s))
+        → Performs define s Done (with_count (changed (AddType name (record { ty = t; committed = committed })) s))
     define_performs t committed (form, is, made) flag =
-        (form, is, refl, ap (λ kept. counted (with_type s name kept)) (rw (made.value, flag) refl))
+        (form, is, refl, ap (λ kept. with_count (with_type s name kept)) (rw (made.value, flag) refl))

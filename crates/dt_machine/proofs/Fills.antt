@@ -7,8 +7,8 @@ use Rattle.dt_offsets.proofs.Reaches.{length-below}
 use Rattle.dt_script.specs.declared.command.Fill.{Fill}
 use Rattle.dt_script.specs.declared.command.Fill.TheVariants.{Zero, Count}
 use Rattle.dt_machine.specs.Refusal.{IsNegativeFill}
-use Rattle.dt_machine.specs.State.{bytes_of}
-use Rattle.dt_machine.proofs.Least.{contrary}
+use Rattle.dt_names.specs.Names.{bytes_of}
+use Rattle.dt_machine.proofs.Rows.{contrary}
 
 zero_length : (len : ℤ) → length (bytes_of (Zero len)) ≡ nat_abs len
 zero_length len = length-replicate (nat_abs len) 0

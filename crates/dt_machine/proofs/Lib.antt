@@ -1,9 +1,9 @@
 pub mod Definitions
 pub mod Fills
-pub mod Least
 pub mod Lines
 pub mod NamedTypes
+pub mod Once
 pub mod Operations
 pub mod Outcomes
-pub mod Standing
+pub mod Rows
 pub mod TypeWords

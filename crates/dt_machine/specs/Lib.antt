@@ -1,10 +1,11 @@
 pub mod Answers
-pub mod Find
+pub mod Laws
+pub mod Limits
 pub mod Made
 pub mod Operation
 pub mod Outcome
 pub mod Refusal
-pub mod Standing
+pub mod Row
 pub mod State
 pub mod Step
 pub use Rattle.dt_reply.specs.Reply

@@ -1,6 +1,5 @@
 -- What a constructor of a script makes of the types that stand.
-use Rattle.std.specs.Prelude.{◌≡◌, ℕ, Bool, false, List, [], ◌∷◌, Option, Some, Result, Ok, Err}
-use Rattle.std.specs.List.{list_any}
+use Rattle.std.specs.Prelude.{◌≡◌, Bool, false, List, [], ◌∷◌, Option, Some, Result, Ok, Err}
 use Rattle.std.specs.Option.{option_map, option_and_then, option_map_or}
 use Rattle.dt_type.specs.Answer.{IsMade, IsCause}
 use Rattle.dt_script.specs.declared.command.Ctor.{Ctor}
@@ -13,21 +12,6 @@ use Rattle.dt_form.specs.declared.form.FormOf.{FormOf}
 use Rattle.dt_form.specs.declared.form.FormOf.TheVariants as form
 use Rattle.dt_form.specs.declared.form.PartOf.{PartOf}
 use Rattle.dt_machine.specs.State.{State, type_of, old_of}
-
--- whether a test holds of some word that names an old type
-abbrev pub any_old : (List ℕ → Bool) → Ctor → Bool
-any_old test (Contiguous count old) = test old
-any_old test (Vector count block stride old) = test old
-any_old test (Hvector count block stride old) = test old
-any_old test (Indexed old blocks) = test old
-any_old test (Hindexed old blocks) = test old
-any_old test (IndexedBlock old block disps) = test old
-any_old test (HindexedBlock old block disps) = test old
-any_old test (Struct parts) = list_any (λ p. test p.old) parts
-any_old test (Resized lb extent old) = test old
-any_old test (Dup old) = test old
-any_old test (Subarray order old dims) = test old
-any_old test (Darray size rank order old dims) = test old
 
 -- a part with its old type, and such parts; none where one doesn't stand
 abbrev pub part_in : State → NamedPart → Option (PartOf Seen)

@@ -1,23 +1,22 @@
--- What a command comes to before anything changes.
+-- What a command comes to before anything changes. No public clause cites this module.
 use Rattle.std.specs.Prelude.{◌≡◌, true, false, IsTrue, List, ℕ, ◌<◌, Option, Some, None, IsSome, Result, MatchResult}
 use Rattle.dt_kinds.specs.Name.{is_left_out}
 use Rattle.dt_reply.specs.declared.refusal.Refusal.{Refusal}
 use Rattle.dt_reply.specs.declared.refusal.Refusal.TheVariants as refusal
-use Rattle.dt_reply.specs.Reply.{Reply, Done, text_of, is_accepted}
+use Rattle.dt_reply.specs.Reply.{is_accepted}
 use Rattle.dt_script.specs.declared.command.Command.{Command}
-use Rattle.dt_script.specs.declared.command.Ctor.{Ctor}
 use Rattle.dt_type.specs.Basic.{is_basic}
 use Rattle.dt_type.specs.declared.fault.CtorFault.{CtorFault}
 use Rattle.dt_type.specs.declared.fault.CtorFault.TheVariants as fault
 use Rattle.dt_machine.specs.declared.outcome.Change.{Change}
 use Rattle.dt_machine.specs.declared.outcome.Change.TheVariants.{Nothing, AddType, Commit, Free, AddBuffer}
 use Rattle.dt_machine.specs.declared.outcome.Outcome.{Outcome}
-use Rattle.dt_machine.specs.declared.outcome.Stop.{Stop}
-use Rattle.dt_machine.specs.declared.outcome.Stop.TheVariants.{Refused, NoMemory}
-use Rattle.dt_machine.specs.declared.state.Kept.{Kept}
-use Rattle.dt_machine.specs.Made.{any_old}
+use Rattle.dt_names.specs.declared.stop.Stop.{Stop}
+use Rattle.dt_names.specs.declared.stop.Stop.TheVariants.{Refused, NoMemory}
+use Rattle.dt_names.specs.declared.kept.Kept.{Kept}
 use Rattle.dt_machine.specs.Refusal.{IsRefusedBy, IsAllowed}
-use Rattle.dt_machine.specs.State.{State, under, is_unknown, is_type_taken, with_type, with_committed, without_type, with_buffer, counted}
+use Rattle.dt_machine.specs.State.{State, is_unknown, with_type, with_committed, without_type, with_buffer, with_count}
+use Rattle.dt_names.specs.Names.{under}
 use Rattle.dt_machine.specs.Step.{Performs}
 
 -- where a name stands for a type, the state with this type committed
@@ -42,14 +41,12 @@ CanChange (Commit name) s = IsSome (under name s.types)
 CanChange (Free name) s = (kept : Kept) → under name s.types ≡ Some kept → is_basic kept.ty ≡ false
 CanChange (AddBuffer name bytes) s = Unit {0}
 
--- a command that is allowed: the line of its reply, and the change that it makes
+-- a command that is allowed: its reply, and the change that it makes
 pub record IsOutcome (s : State) (command : Command) (o : Outcome) : Type 0 where
   pub allowed : IsAllowed s command
   pub can_change : CanChange o.change s
-  pub reply : Reply
-  pub performs : Performs command s reply (counted (changed o.change s))
-  pub text : o.line.items ≡ text_of reply
-  pub accepted : IsTrue (is_accepted reply)
+  pub performs : Performs command s o.reply (with_count (changed o.change s))
+  pub accepted : IsTrue (is_accepted o.reply)
 
 -- why it stops: a refusal, or want of memory, which is tied to nothing
 abbrev pub IsStop : State → Command → Stop → Type 0
@@ -59,29 +56,6 @@ IsStop s command NoMemory = Unit {0}
 abbrev pub ComesTo : State → Command → Result Outcome Stop → Type 0
 ComesTo s command result = MatchResult result (IsOutcome s command) (IsStop s command)
 
--- why a type word stands for nothing: it is unknown, or left out
-abbrev pub IsMissing : State → List ℕ → Stop → Type 0
-IsMissing s word (Refused refusal.UnknownName) = IsTrue (is_unknown s word)
-IsMissing s word (Refused refusal.UnsupportedKind) = IsTrue (is_left_out word)
-IsMissing s word NoMemory = Unit {0}
-IsMissing s word stop = ⊥
-
--- the names of a new type say nothing against it
-pub record AreFree (s : State) (name : List ℕ) (ctor : Ctor) : Type 0 where
-  pub known : any_old (is_unknown s) ctor ≡ false
-  pub free : is_type_taken s name ≡ false
-  pub supported : any_old is_left_out ctor ≡ false
-
--- the reply `ok`, with a change
-pub record IsDone (made : Change) (o : Outcome) : Type 0 where
-  pub line : o.line.items ≡ text_of Done
-  pub change : o.change ≡ made
-
--- a line that changes nothing
-pub record IsTold (text : List ℕ) (o : Outcome) : Type 0 where
-  pub line : o.line.items ≡ text
-  pub change : o.change ≡ Nothing
-
 -- a constructor's fault as a refusal
 abbrev pub stop_by : CtorFault → Stop
 stop_by fault.BadArgument = Refused refusal.BadArgument
@@ -89,15 +63,3 @@ stop_by fault.Overflow = Refused refusal.Overflow
 stop_by fault.TooDeep = Refused refusal.TooDeep
 stop_by fault.TooHeavy = Refused refusal.TooHeavy
 stop_by fault.NoMemory = NoMemory
-
--- the names of a child say nothing against it; and the first that does
-pub record IsFreeFor (s : State) (name ty : List ℕ) : Type 0 where
-  pub known : is_unknown s ty ≡ false
-  pub free : is_type_taken s name ≡ false
-  pub supported : is_left_out ty ≡ false
-
-abbrev pub IsTakenFor : State → List ℕ → List ℕ → Refusal → Type 0
-IsTakenFor s name ty refusal.UnknownName = is_unknown s ty ≡ true
-IsTakenFor s name ty refusal.NameTaken = (is_unknown s ty ≡ false) × (is_type_taken s name ≡ true)
-IsTakenFor s name ty refusal.UnsupportedKind = (is_unknown s ty ≡ false) × (is_type_taken s name ≡ false) × (is_left_out ty ≡ true)
-IsTakenFor s name ty other = ⊥

@@ -1,5 +1,6 @@
 -- When a command is refused, and by which number.
-use Rattle.std.specs.Prelude.{◌≡◌, ℕ, ◌+◌, ◌≤◌, ◌<◌, ℤ, pos, nat_abs, int_lt, ◌||◌, IsTrue, IsFalse, is_none, List, length, Some, None, false, ◌⊎◌}
+use Rattle.std.specs.Prelude.{◌≡◌, ℕ, ◌+◌, ◌≤◌, ◌<◌, ℤ, pos, nat_abs, int_lt, Bool, ◌||◌, IsTrue, IsFalse, is_none, List, [], ◌∷◌, length, None, false, ◌⊎◌}
+use Rattle.std.specs.Option.{IsSomeAnd}
 use Rattle.dt_kinds.specs.Name.{is_left_out}
 use Rattle.dt_map.specs.declared.entry.Entry.{Entry}
 use Rattle.dt_map.specs.Elements.{elements, are_inside}
@@ -11,14 +12,18 @@ use Rattle.dt_script.specs.declared.command.Command.{Command}
 use Rattle.dt_script.specs.declared.command.Command.TheVariants.{Define, Child, Commit, Free, Info, Map, Envelope, Contents, Buffer, Show, Bytes}
 use Rattle.dt_script.specs.declared.command.Fill.{Fill}
 use Rattle.dt_script.specs.declared.command.Fill.TheVariants.{Zero, Count, Hex}
+use Rattle.dt_script.specs.Olds.{any_old}
 use Rattle.dt_type.specs.declared.fault.CtorFault.TheVariants as fault
 use Rattle.dt_type.specs.Basic.{is_basic}
 use Rattle.dt_form.specs.Contents.{old_at}
 use Rattle.dt_type.specs.Datatype.{typemap_of, entries_of, form_of}
 use Rattle.dt_form.specs.Form.{olds_of}
-use Rattle.dt_machine.specs.declared.state.Kept.{Kept}
-use Rattle.dt_machine.specs.Made.{any_old, IsFaultIn}
-use Rattle.dt_machine.specs.State.{State, type_of, buffer_of, is_unknown, is_basic_word, is_type_taken, is_buffer_taken, bytes_held, bytes_of}
+use Rattle.dt_names.specs.declared.kept.Kept.{Kept}
+use Rattle.dt_machine.specs.Limits.{most_types, most_made, most_buffers, largest_buffer, most_bytes, most_entries, most_packed}
+use Rattle.dt_machine.specs.Made.{IsFaultIn}
+use Rattle.dt_machine.specs.Row.{Row, ◌when◌, condition}
+use Rattle.dt_machine.specs.State.{State, type_of, buffer_of, is_unknown, is_basic_word, is_type_taken, is_buffer_taken, bytes_held}
+use Rattle.dt_names.specs.Names.{bytes_of}
 
 -- a negative length
 abbrev pub IsNegativeFill : Fill → Type 0
@@ -28,69 +33,77 @@ IsNegativeFill (Hex bytes) = ⊥
 
 -- more bytes than one buffer may have, or all together
 abbrev pub IsTooLarge : State → ℕ → Type 0
-IsTooLarge s len = (16777216 < len) ⊎ (67108864 < bytes_held s + len)
+IsTooLarge s len = (largest_buffer < len) ⊎ (most_bytes < bytes_held s + len)
 
 -- the elements of an operation on a type that stands
 abbrev pub elements_of : Kept → ℤ → ℤ → List Entry
 elements_of kept count origin = elements (typemap_of kept.ty) (nat_abs count) origin
 
+-- some byte of some element lies outside the buffer, where type and buffer stand
 abbrev pub IsOutside : State → List ℕ → List ℕ → ℤ → ℤ → Type 0
 IsOutside s ty buffer count origin =
-    (kept : Kept) × (bytes : List ℕ) × (type_of s ty ≡ Some kept) × (buffer_of s buffer ≡ Some bytes)
-    × IsFalse (are_inside (length bytes) (elements_of kept count origin))
+    IsSomeAnd (type_of s ty) (λ kept. IsSomeAnd (buffer_of s buffer) (λ bytes. IsFalse (are_inside (length bytes) (elements_of kept count origin))))
 
 -- no more types may stand, or be made
 abbrev pub NoMoreTypes : State → Type 0
-NoMoreTypes s = (1024 ≤ length s.types) ⊎ (18446744073709551615 ≤ s.made)
+NoMoreTypes s = (most_types ≤ length s.types) ⊎ (most_made ≤ s.made)
 
 -- a type that stands is derived, and has no old type of that number
 abbrev pub LacksChild : State → List ℕ → ℤ → Type 0
-LacksChild s ty k =
-    (kept : Kept) × (type_of s ty ≡ Some kept) × (is_basic kept.ty ≡ false) × (old_at (olds_of (form_of kept.ty)) k ≡ None)
+LacksChild s ty k = IsSomeAnd (type_of s ty) (λ kept. (is_basic kept.ty ≡ false) × (old_at (olds_of (form_of kept.ty)) k ≡ None))
 
--- whether the condition of a refusal holds of a command. A condition that needs what doesn't stand doesn't hold
+-- a command that uses a type, and then more
+abbrev pub type_row : State → List ℕ → Row → Row
+type_row s ty more = UnknownName when IsTrue (is_unknown s ty) ∷ UnsupportedKind when IsTrue (is_left_out ty) ∷ more
+
+-- a command that names a new type, made of types of which some is unknown or left out, and then more
+abbrev pub new_type_row : State → List ℕ → Bool → Bool → Row → Row
+new_type_row s name unknown left_out more =
+    UnknownName when IsTrue unknown ∷ NameTaken when IsTrue (is_type_taken s name) ∷ UnsupportedKind when IsTrue left_out ∷ more
+
+-- What refuses each command, by rising number. A condition that needs what doesn't stand doesn't hold.
+abbrev pub conditions : State → Command → Row
+conditions s (Define name ctor) =
+    new_type_row s name (any_old (is_unknown s) ctor) (any_old is_left_out ctor) (
+    BadArgument when IsFaultIn s ctor fault.BadArgument
+    ∷ Overflow when IsFaultIn s ctor fault.Overflow
+    ∷ TooDeep when IsFaultIn s ctor fault.TooDeep
+    ∷ TooHeavy when IsFaultIn s ctor fault.TooHeavy
+    ∷ TooManyNames when NoMoreTypes s
+    ∷ []
+    )
+conditions s (Child name ty k) =
+    new_type_row s name (is_unknown s ty) (is_left_out ty) (
+    NamedType when IsTrue (is_basic_word s ty)
+    ∷ NoSuchChild when LacksChild s ty k
+    ∷ TooManyNames when NoMoreTypes s
+    ∷ []
+    )
+conditions s (Commit ty) = type_row s ty []
+conditions s (Free ty) = type_row s ty (BasicType when IsTrue (is_basic_word s ty) ∷ [])
+conditions s (Info ty) = type_row s ty []
+conditions s (Map ty) =
+    type_row s ty (TooManyEntries when IsSomeAnd (type_of s ty) (λ kept. most_entries < length (entries_of kept.ty)) ∷ [])
+conditions s (Envelope ty) = type_row s ty []
+conditions s (Contents ty) = type_row s ty (NamedType when IsTrue (is_basic_word s ty) ∷ [])
+conditions s (Buffer name fill) =
+    NameTaken when IsTrue (is_buffer_taken s name)
+    ∷ BadArgument when IsNegativeFill fill
+    ∷ TooManyNames when (most_buffers ≤ length s.buffers)
+    ∷ TooLarge when IsTooLarge s (length (bytes_of fill))
+    ∷ []
+conditions s (Show buffer) = UnknownName when IsTrue (is_none (buffer_of s buffer)) ∷ []
+conditions s (Bytes rep count ty buffer origin) =
+    UnknownName when IsTrue (is_unknown s ty || is_none (buffer_of s buffer))
+    ∷ UnsupportedKind when IsTrue (is_left_out ty)
+    ∷ BadArgument when IsTrue (int_lt count (pos 0))
+    ∷ Outside when IsOutside s ty buffer count origin
+    ∷ TooLarge when IsSomeAnd (type_of s ty) (λ kept. most_packed < total rep (elements_of kept count origin))
+    ∷ []
+
+-- the condition of a refusal holds of a command
 abbrev pub Holds : State → Command → Refusal → Type 0
-Holds s (Define name ctor) UnknownName = IsTrue (any_old (is_unknown s) ctor)
-Holds s (Define name ctor) NameTaken = IsTrue (is_type_taken s name)
-Holds s (Define name ctor) UnsupportedKind = IsTrue (any_old is_left_out ctor)
-Holds s (Define name ctor) BadArgument = IsFaultIn s ctor fault.BadArgument
-Holds s (Define name ctor) Overflow = IsFaultIn s ctor fault.Overflow
-Holds s (Define name ctor) TooDeep = IsFaultIn s ctor fault.TooDeep
-Holds s (Define name ctor) TooHeavy = IsFaultIn s ctor fault.TooHeavy
-Holds s (Define name ctor) TooManyNames = NoMoreTypes s
-Holds s (Child name ty k) UnknownName = IsTrue (is_unknown s ty)
-Holds s (Child name ty k) NameTaken = IsTrue (is_type_taken s name)
-Holds s (Child name ty k) UnsupportedKind = IsTrue (is_left_out ty)
-Holds s (Child name ty k) NamedType = IsTrue (is_basic_word s ty)
-Holds s (Child name ty k) NoSuchChild = LacksChild s ty k
-Holds s (Child name ty k) TooManyNames = NoMoreTypes s
-Holds s (Commit ty) UnknownName = IsTrue (is_unknown s ty)
-Holds s (Commit ty) UnsupportedKind = IsTrue (is_left_out ty)
-Holds s (Free ty) UnknownName = IsTrue (is_unknown s ty)
-Holds s (Free ty) UnsupportedKind = IsTrue (is_left_out ty)
-Holds s (Free ty) BasicType = IsTrue (is_basic_word s ty)
-Holds s (Info ty) UnknownName = IsTrue (is_unknown s ty)
-Holds s (Info ty) UnsupportedKind = IsTrue (is_left_out ty)
-Holds s (Map ty) UnknownName = IsTrue (is_unknown s ty)
-Holds s (Map ty) UnsupportedKind = IsTrue (is_left_out ty)
-Holds s (Map ty) TooManyEntries = (kept : Kept) × (type_of s ty ≡ Some kept) × (4096 < length (entries_of kept.ty))
-Holds s (Envelope ty) UnknownName = IsTrue (is_unknown s ty)
-Holds s (Envelope ty) UnsupportedKind = IsTrue (is_left_out ty)
-Holds s (Contents ty) UnknownName = IsTrue (is_unknown s ty)
-Holds s (Contents ty) UnsupportedKind = IsTrue (is_left_out ty)
-Holds s (Contents ty) NamedType = IsTrue (is_basic_word s ty)
-Holds s (Buffer name fill) NameTaken = IsTrue (is_buffer_taken s name)
-Holds s (Buffer name fill) BadArgument = IsNegativeFill fill
-Holds s (Buffer name fill) TooManyNames = 256 ≤ length s.buffers
-Holds s (Buffer name fill) TooLarge = IsTooLarge s (length (bytes_of fill))
-Holds s (Show buffer) UnknownName = IsTrue (is_none (buffer_of s buffer))
-Holds s (Bytes rep count ty buffer origin) UnknownName = IsTrue (is_unknown s ty || is_none (buffer_of s buffer))
-Holds s (Bytes rep count ty buffer origin) UnsupportedKind = IsTrue (is_left_out ty)
-Holds s (Bytes rep count ty buffer origin) BadArgument = IsTrue (int_lt count (pos 0))
-Holds s (Bytes rep count ty buffer origin) Outside = IsOutside s ty buffer count origin
-Holds s (Bytes rep count ty buffer origin) TooLarge =
-    (kept : Kept) × (type_of s ty ≡ Some kept) × (16777216 < total rep (elements_of kept count origin))
-Holds s command refusal = ⊥
+Holds s command refusal = condition (conditions s command) refusal
 
 -- a command is refused by the least number whose condition holds
 abbrev pub IsRefusedBy : State → Command → Refusal → Type 0

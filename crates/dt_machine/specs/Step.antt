@@ -4,7 +4,8 @@ use Rattle.dt_map.specs.Bounds.{bounds_of}
 use Rattle.dt_map.specs.Packed.{packed}
 use Rattle.dt_reply.specs.declared.refusal.Refusal.{Refusal}
 use Rattle.dt_reply.specs.declared.refusal.Refusal.TheVariants.{Syntax}
-use Rattle.dt_reply.specs.Reply.{Reply, Silent, Done, Packed, Shown, Told, Listed, Described, Contained, Refused}
+use Rattle.dt_reply.specs.declared.reply.Reply.{Reply}
+use Rattle.dt_reply.specs.declared.reply.Reply.TheVariants.{Silent, Done, Packed, Shown, Told, Listed, Described, Contained, Refused}
 use Rattle.dt_script.specs.declared.command.Command.{Command}
 use Rattle.dt_script.specs.declared.command.Command.TheVariants.{Define, Child, Commit, Free, Info, Map, Envelope, Contents, Buffer, Show, Bytes}
 use Rattle.dt_script.specs.Name.{begins_with_mpi}
@@ -16,44 +17,45 @@ use Rattle.dt_form.specs.Contents.{old_at, envelope_of, contents_of}
 use Rattle.dt_type.specs.Datatype.{typemap_of, form_of}
 use Rattle.dt_form.specs.Form.{olds_of}
 use Rattle.dt_type.specs.Form.{result_of}
-use Rattle.dt_machine.specs.declared.state.Kept.{Kept}
+use Rattle.dt_names.specs.declared.kept.Kept.{Kept}
 use Rattle.dt_machine.specs.Made.{form_in, is_committed_by}
 use Rattle.dt_machine.specs.Refusal.{elements_of, IsRefusedBy, IsAllowed}
-use Rattle.dt_machine.specs.State.{State, type_of, buffer_of, bytes_of, with_type, with_committed, without_type, with_buffer, counted}
+use Rattle.dt_machine.specs.State.{State, type_of, buffer_of, with_type, with_committed, without_type, with_buffer, with_count}
+use Rattle.dt_names.specs.Names.{bytes_of}
 
 -- what a command replies and changes that is not refused
 abbrev pub Performs : Command → State → Reply → State → Type 0
 -- the new name stands for the type that the constructor gives
 Performs (Define name ctor) s reply t =
     (form : FormOf Seen) × (form_in s ctor ≡ Some form) × (reply ≡ Done)
-    × (t ≡ counted (with_type s name (record { ty = result_of form; committed = is_committed_by s ctor })))
+    × (t ≡ with_count (with_type s name (record { ty = result_of form; committed = is_committed_by s ctor })))
 -- the new name stands for an old type of the type, which is committed where it is basic
 Performs (Child name ty k) s reply t =
     (kept : Kept) × (old : Seen) × (type_of s ty ≡ Some kept) × (old_at (olds_of (form_of kept.ty)) k ≡ Some old) × (reply ≡ Done)
-    × (t ≡ counted (with_type s name (record { ty = old; committed = is_basic old })))
+    × (t ≡ with_count (with_type s name (record { ty = old; committed = is_basic old })))
 -- the type is committed, as a basic type is already
 Performs (Commit ty) s reply t =
-    (kept : Kept) × (type_of s ty ≡ Some kept) × (reply ≡ Done) × (t ≡ counted (if begins_with_mpi ty then s else with_committed s ty kept))
+    (kept : Kept) × (type_of s ty ≡ Some kept) × (reply ≡ Done) × (t ≡ with_count (if begins_with_mpi ty then s else with_committed s ty kept))
 -- the name stands for nothing from now on
-Performs (Free ty) s reply t = (reply ≡ Done) × (t ≡ counted (without_type s ty))
+Performs (Free ty) s reply t = (reply ≡ Done) × (t ≡ with_count (without_type s ty))
 -- the bounds of the type are told, and whether it is committed
 Performs (Info ty) s reply t =
-    (kept : Kept) × (type_of s ty ≡ Some kept) × (reply ≡ Told (bounds_of (typemap_of kept.ty)) kept.committed) × (t ≡ counted s)
+    (kept : Kept) × (type_of s ty ≡ Some kept) × (reply ≡ Told (bounds_of (typemap_of kept.ty)) kept.committed) × (t ≡ with_count s)
 -- its typemap is listed with the marks
-Performs (Map ty) s reply t = (kept : Kept) × (type_of s ty ≡ Some kept) × (reply ≡ Listed (typemap_of kept.ty)) × (t ≡ counted s)
+Performs (Map ty) s reply t = (kept : Kept) × (type_of s ty ≡ Some kept) × (reply ≡ Listed (typemap_of kept.ty)) × (t ≡ with_count s)
 -- its envelope is told, and its contents are listed
 Performs (Envelope ty) s reply t =
-    (kept : Kept) × (type_of s ty ≡ Some kept) × (reply ≡ Described (envelope_of (form_of kept.ty))) × (t ≡ counted s)
+    (kept : Kept) × (type_of s ty ≡ Some kept) × (reply ≡ Described (envelope_of (form_of kept.ty))) × (t ≡ with_count s)
 Performs (Contents ty) s reply t =
-    (kept : Kept) × (type_of s ty ≡ Some kept) × (reply ≡ Contained (contents_of (form_of kept.ty))) × (t ≡ counted s)
+    (kept : Kept) × (type_of s ty ≡ Some kept) × (reply ≡ Contained (contents_of (form_of kept.ty))) × (t ≡ with_count s)
 -- the new name stands for the bytes
-Performs (Buffer name fill) s reply t = (reply ≡ Done) × (t ≡ counted (with_buffer s name (bytes_of fill)))
+Performs (Buffer name fill) s reply t = (reply ≡ Done) × (t ≡ with_count (with_buffer s name (bytes_of fill)))
 -- the whole buffer is shown
-Performs (Show buffer) s reply t = (bytes : List ℕ) × (buffer_of s buffer ≡ Some bytes) × (reply ≡ Shown bytes) × (t ≡ counted s)
+Performs (Show buffer) s reply t = (bytes : List ℕ) × (buffer_of s buffer ≡ Some bytes) × (reply ≡ Shown bytes) × (t ≡ with_count s)
 -- the packed bytes are those of the elements, read from the buffer
 Performs (Bytes rep count ty buffer origin) s reply t =
     (kept : Kept) × (bytes : List ℕ) × (type_of s ty ≡ Some kept) × (buffer_of s buffer ≡ Some bytes)
-    × (reply ≡ Packed (packed rep (elements_of kept count origin) bytes)) × (t ≡ counted s)
+    × (reply ≡ Packed (packed rep (elements_of kept count origin) bytes)) × (t ≡ with_count s)
 
 -- a command is refused and changes nothing, or it is performed
 abbrev pub Obeys : Command → State → Reply → State → Type 0

@@ -1,19 +1,19 @@
 //! `bytes REP COUNT TYPE BUFFER ORIGIN`
 ghost use Rattle.std.specs.Prelude.{MatchOption};
-ghost use Rattle.dt_machine.specs.Operation.{IsPrinted, IsWithheld};
+ghost use Rattle.dt_machine.specs.Operation.{operation_row};
 ghost use Rattle.dt_machine.specs.Outcome.{ComesTo};
-ghost use Rattle.dt_script.specs.declared.command.Command.TheVariants.{Bytes};
+ghost use Rattle.dt_machine.specs.Row.{IsFirst, IsClear};
+ghost use Rattle.dt_script.specs.declared.command.Command.TheVariants.{Bytes as BytesCommand};
 
+use crate::limits::MOST_PACKED;
 use crate::machine::Machine;
-use crate::outcome::{Outcome, Stop, told};
+use crate::outcome::{Outcome, told};
 use dt_elems::{packed_bytes, packed_size, span_inside};
 use dt_kinds::Rep;
-use dt_reply::{Refusal, packed_line};
-use dt_script::Name;
+use dt_names::Stop;
+use dt_reply::{Refusal, Reply};
+use dt_script::{Bytes, Name};
 use dt_type::Datatype;
-
-/// So many packed bytes `bytes` prints.
-const MOST_PACKED: u128 = 16_777_216;
 
 /// Why the packed bytes of an operation aren't printed, by its numbers, its type and the length of its buffer.
 fn refused_operation(
@@ -23,7 +23,7 @@ fn refused_operation(
     len: usize,
     origin: i64,
 ) -> Option<Refusal>
-    ensures { MatchOption result (IsPrinted rep count ty.now len origin) (IsWithheld rep count ty.now len origin) }
+    ensures { MatchOption result (IsClear (operation_row rep count ty.now len origin)) (IsFirst (operation_row rep count ty.now len origin)) }
 {
     if count < 0 {
         return Some(Refusal::BadArgument);
@@ -48,7 +48,7 @@ impl Machine {
         buffer: &Name,
         origin: i64,
     ) -> Result<Outcome, Stop>
-        ensures { ComesTo self.now (Bytes rep count ty.now buffer.now origin) result }
+        ensures { ComesTo self.now (BytesCommand rep count ty.now buffer.now origin) result }
     {
         let Some(buffer) = self.buffer(buffer) else {
             return Err(Stop::Refused(Refusal::UnknownName));
@@ -62,7 +62,6 @@ impl Machine {
         }
         let copies = count.unsigned_abs();
         let bytes = packed_bytes(self.alloc, &kept.ty, rep, copies, origin, buffer)?;
-        let line = packed_line(self.alloc, &bytes)?;
-        Ok(told(line))
+        Ok(told(Reply::Packed(Bytes::from_vec(bytes))))
     }
 }

@@ -1,45 +1,48 @@
 //! `type NAME = CTOR`
-ghost use Rattle.std.specs.Prelude.{◌≡◌, true, false, is_none, Some, MatchOption, MatchResult};
+ghost use Rattle.std.specs.Prelude.{◌≡◌, true, false, is_none, Some, [], MatchOption, MatchResult};
 ghost use Rattle.std.specs.List.{list_any};
 ghost use Rattle.dt_kinds.specs.Name.{is_left_out};
-ghost use Rattle.dt_machine.specs.Made.{any_old, part_in, parts_in, is_committed_by, IsAnswerIn};
-ghost use Rattle.dt_machine.specs.Outcome.{ComesTo, AreFree, stop_by};
-ghost use Rattle.dt_machine.specs.Refusal.{IsRefusedBy};
+ghost use Rattle.dt_machine.specs.Made.{part_in, parts_in, is_committed_by, IsAnswerIn};
+ghost use Rattle.dt_script.specs.Olds.{any_old};
+ghost use Rattle.dt_machine.specs.Outcome.{ComesTo, stop_by};
+ghost use Rattle.dt_machine.specs.Refusal.{new_type_row};
+ghost use Rattle.dt_machine.specs.Row.{IsFirst, IsClear};
 ghost use Rattle.dt_machine.specs.State.{type_of, old_of, is_unknown};
 ghost use Rattle.dt_script.specs.declared.command.Command.TheVariants.{Define};
 
-use crate::machine::{Machine, is_left_out};
-use crate::outcome::{Change, Outcome, Stop, done};
-use crate::state::Kept;
+use crate::machine::Machine;
+use crate::outcome::{Change, Outcome, done};
 use dt_array::{darray, subarray};
 use dt_ctor::{
     contiguous, dup, hindexed, hindexed_block, hvector, indexed, indexed_block, resized, structure,
     vector,
 };
+use dt_names::{Kept, Stop, is_left_out};
 use dt_reply::Refusal;
-use dt_script::{Ctor, Name, NamedPart};
+use dt_script::{Ctor, Name, NamedPart, WordTest};
 use dt_type::{CtorFault, Datatype, Part};
 
-/// Whether the name of a part's old type is left out.
-fn parts_left_out(parts: &[NamedPart]) -> bool
-    ensures { result ≡ list_any (λ p. is_left_out p.old) parts.now }
-{
-    parts.iter().any(|part| is_left_out(&part.old))
+/// The words that are left out.
+#[derive(Clone, Copy)]
+struct LeftOut;
+
+impl WordTest for LeftOut {
+    ghost test = { λ _ word. is_left_out word };
+
+    fn passes(&self, word: &Name) -> bool {
+        is_left_out(word)
+    }
 }
 
-/// Whether the name of an old type is left out.
-fn has_left_out(ctor: &Ctor) -> bool
-    ensures { result ≡ any_old is_left_out ctor.now }
-{
-    match ctor {
-        Ctor::Struct { parts } => parts_left_out(parts.as_slice()),
-        Ctor::Contiguous { old, .. } | Ctor::Vector { old, .. } | Ctor::Hvector { old, .. } => {
-            is_left_out(old)
-        }
-        Ctor::Indexed { old, .. } | Ctor::Hindexed { old, .. } => is_left_out(old),
-        Ctor::IndexedBlock { old, .. } | Ctor::HindexedBlock { old, .. } => is_left_out(old),
-        Ctor::Resized { old, .. } | Ctor::Dup { old } => is_left_out(old),
-        Ctor::Subarray { old, .. } | Ctor::Darray { old, .. } => is_left_out(old),
+/// The words that stand for nothing in a machine.
+#[derive(Clone, Copy)]
+struct UnknownTo<'a>(&'a Machine);
+
+impl WordTest for UnknownTo<'_> {
+    ghost test = { λ t word. is_unknown t.0.now word };
+
+    fn passes(&self, word: &Name) -> bool {
+        self.0.is_unknown(word)
     }
 }
 
@@ -57,31 +60,6 @@ fn stop_of(fault: CtorFault) -> Stop
 }
 
 impl Machine {
-    /// Whether the name of a part's old type stands for nothing.
-    fn parts_unknown(&self, parts: &[NamedPart]) -> bool
-        ensures { result ≡ list_any (λ p. is_unknown self.now p.old) parts.now }
-    {
-        parts.iter().any(|part| self.is_unknown(&part.old))
-    }
-
-    /// Whether the name of an old type stands for nothing.
-    fn has_unknown(&self, ctor: &Ctor) -> bool
-        ensures { result ≡ any_old (is_unknown self.now) ctor.now }
-    {
-        match ctor {
-            Ctor::Struct { parts } => self.parts_unknown(parts.as_slice()),
-            Ctor::Contiguous { old, .. } | Ctor::Vector { old, .. } | Ctor::Hvector { old, .. } => {
-                self.is_unknown(old)
-            }
-            Ctor::Indexed { old, .. } | Ctor::Hindexed { old, .. } => self.is_unknown(old),
-            Ctor::IndexedBlock { old, .. } | Ctor::HindexedBlock { old, .. } => {
-                self.is_unknown(old)
-            }
-            Ctor::Resized { old, .. } | Ctor::Dup { old } => self.is_unknown(old),
-            Ctor::Subarray { old, .. } | Ctor::Darray { old, .. } => self.is_unknown(old),
-        }
-    }
-
     /// The old type that a word stands for.
     fn old(&self, word: &Name) -> Result<Datatype, CtorFault>
         requires { is_none (type_of self.now word.now) ≡ false }
@@ -184,13 +162,13 @@ impl Machine {
 
     /// Why a type isn't made, by its names alone.
     fn refused_by_names(&self, name: &Name, ctor: &Ctor) -> Option<Refusal>
-        ensures { MatchOption result (AreFree self.now name.now ctor.now) (IsRefusedBy self.now (Define name.now ctor.now)) }
+        ensures { MatchOption result (IsClear (new_type_row self.now name.now (any_old (is_unknown self.now) ctor.now) (any_old is_left_out ctor.now) [])) (IsFirst (new_type_row self.now name.now (any_old (is_unknown self.now) ctor.now) (any_old is_left_out ctor.now) [])) }
     {
-        if self.has_unknown(ctor) {
+        if ctor.any_old(&UnknownTo(self)) {
             Some(Refusal::UnknownName)
         } else if self.is_type_taken(name) {
             Some(Refusal::NameTaken)
-        } else if has_left_out(ctor) {
+        } else if ctor.any_old(&LeftOut) {
             Some(Refusal::UnsupportedKind)
         } else {
             None
@@ -214,6 +192,6 @@ impl Machine {
         let name = name.copied()?;
         let committed = self.is_committed_by(ctor);
         let kept = Kept { ty, committed };
-        done(self.alloc, Change::AddType { name, kept })
+        Ok(done(Change::AddType { name, kept }))
     }
 }

@@ -1,25 +1,19 @@
 //! `buffer NAME FILL`
 ghost use Rattle.std.specs.Prelude.{◌≡◌, ◌↔◌, length, pos, nat_abs, int_lt, true, false, IsTrue, MatchOption, IfOk};
 ghost use Rattle.dt_machine.specs.Outcome.{ComesTo};
-ghost use Rattle.dt_machine.specs.Refusal.{IsNegativeFill, IsTooLarge, IsAllowed, IsRefusedBy};
-ghost use Rattle.dt_machine.specs.State.{bytes_of};
+ghost use Rattle.dt_machine.specs.Refusal.{IsNegativeFill, IsTooLarge, conditions};
+ghost use Rattle.dt_machine.specs.Row.{IsFirst, IsClear};
+ghost use Rattle.dt_names.specs.Names.{bytes_of};
 ghost use Rattle.dt_script.specs.declared.command.Command.TheVariants.{Buffer as BufferCommand};
 
-use crate::buffer::Buffer;
+use crate::limits::{LARGEST_BUFFER, MOST_BUFFERS, MOST_BYTES};
 use crate::machine::Machine;
-use crate::outcome::{Change, Outcome, Stop, done};
+use crate::outcome::{Change, Outcome, done};
 use dt_kinds::NoMemory;
+use dt_names::{Buffer, Stop};
 use dt_reply::Refusal;
 use dt_script::{Fill, Name};
 use std::alloc::Global;
-
-/// So many buffers may stand.
-const MOST_BUFFERS: usize = 256;
-
-/// So many bytes one buffer may have, and all of them together.
-const LARGEST: usize = 16_777_216;
-
-const MOST_BYTES: u64 = 67_108_864;
 
 /// A length, or None where it is negative.
 fn not_negative(len: i32) -> Option<usize>
@@ -59,12 +53,12 @@ impl Machine {
     fn is_too_large(&self, len: usize) -> bool
         ensures { IsTrue result ↔ IsTooLarge self.now len }
     {
-        len > LARGEST || self.bytes_held() > MOST_BYTES - len as u64
+        len > LARGEST_BUFFER || self.bytes_held() > MOST_BYTES - len as u64
     }
 
     /// Why a buffer isn't made.
     fn refused_buffer(&self, name: &Name, fill: &Fill) -> Option<Refusal>
-        ensures { MatchOption result (IsAllowed self.now (BufferCommand name.now fill.now)) (IsRefusedBy self.now (BufferCommand name.now fill.now)) }
+        ensures { MatchOption result (IsClear (conditions self.now (BufferCommand name.now fill.now))) (IsFirst (conditions self.now (BufferCommand name.now fill.now))) }
     {
         if self.is_buffer_taken(name) {
             return Some(Refusal::NameTaken);
@@ -90,6 +84,6 @@ impl Machine {
         }
         let name = name.copied()?;
         let buffer = filled(self.alloc, fill)?;
-        done(self.alloc, Change::AddBuffer { name, buffer })
+        Ok(done(Change::AddBuffer { name, buffer }))
     }
 }

@@ -1,43 +1,31 @@
 ghost use Rattle.std.specs.Prelude.{◌≡◌, ◌↔◌, ◌++◌, IsTrue, true, false, IfOk, OnOk, OnErr, MatchOption, MatchResult, None, Some, min, length};
 ghost use Rattle.std.specs.Option.{option_map_or};
-ghost use Rattle.dt_kinds.specs.Name.{is_left_out};
-ghost use Rattle.dt_machine.specs.Outcome.{CanChange, ComesTo, IsMissing, changed};
-ghost use Rattle.dt_machine.specs.State.{first_state, type_of, under, buffer_of, is_unknown, is_basic_word, is_type_taken, is_buffer_taken, bytes_held, counted};
+ghost use Rattle.dt_machine.specs.Outcome.{CanChange, ComesTo, changed};
+ghost use Rattle.dt_names.specs.Missing.{IsMissing};
+ghost use Rattle.dt_machine.specs.State.{first_state, type_of, buffer_of, is_unknown, is_basic_word, is_type_taken, is_buffer_taken, bytes_held, with_count};
+ghost use Rattle.dt_names.specs.Names.{under};
 ghost use Rattle.dt_machine.specs.Refusal.{NoMoreTypes};
-ghost use Rattle.dt_machine.specs.Standing.{IsFound};
+ghost use Rattle.dt_names.specs.Found.{IsFoundType};
 ghost use Rattle.dt_machine.specs.Step.{Step, Obeys};
-ghost use Rattle.dt_type.specs.Basic.{is_basic};
-ghost use Rattle.dt_script.specs.Name.{begins_with_mpi};
-ghost use Rattle.dt_reply.specs.Reply.{Refused, Gives, Responds};
+ghost use Rattle.dt_reply.specs.Reply.{Gives, Responds, text_of};
+ghost use Rattle.dt_reply.specs.declared.reply.Reply.TheVariants.{Refused};
 
-use crate::buffer::Buffer;
-use crate::outcome::{Change, Outcome, Stop};
-use crate::state::{Kept, Totals};
-use crate::types::{Held, Types};
-use dt_kinds::{Kind, KindFault, NoMemory};
-use dt_reply::{Refusal, refusal_line};
+use crate::limits::{MOST_MADE, MOST_TYPES};
+use crate::outcome::{Change, Outcome};
+use crate::state::Totals;
+use dt_kinds::NoMemory;
+use dt_names::{Buffers, Found, Kept, Stop, Types};
+use dt_reply::{Refusal, Reply};
 use dt_script::{Command, LineFault, Name, parse_line};
-use dt_type::{Datatype, FormOf};
 use std::alloc::Global;
-use std::collections::BTreeMap;
 use std::marker::Model;
-
-/// So many types may stand.
-const MOST_TYPES: usize = 1024;
-
-/// Whether a datatype is basic.
-pub(crate) fn is_basic(ty: &Datatype) -> bool
-    ensures { result ≡ is_basic ty.now }
-{
-    matches!(ty.form(), FormOf::Named(_))
-}
 
 /// The types and buffers of a script, changed by its lines.
 #[derive(Drop)]
 pub struct Machine {
     pub(crate) alloc: Global,
     types: Types,
-    buffers: BTreeMap<Name, Buffer>,
+    buffers: Buffers,
     totals: Totals,
 }
 
@@ -51,14 +39,7 @@ impl Model for Machine {
 
     ghost coded = { Prim.hlevel (codes, datatype.the_row.coded) };
 
-    ghost view = { λ m. record { types = m.types.entries; made = m.types.made; buffers = m.buffers.entries; totals = m.totals } };
-}
-
-/// Whether a type word is the name of a datatype that is left out.
-pub(crate) fn is_left_out(word: &Name) -> bool
-    ensures { result ≡ is_left_out word.now }
-{
-    matches!(Kind::of_name(word.as_bytes()), Err(KindFault::Unsupported))
+    ghost view = { λ m. record { types = m.types.entries; made = m.types.made; buffers = m.buffers; totals = m.totals } };
 }
 
 impl Machine {
@@ -76,7 +57,7 @@ impl Machine {
         Machine {
             alloc,
             types: Types::new(alloc),
-            buffers: BTreeMap::new(alloc),
+            buffers: Buffers::new(alloc),
             totals,
         }
     }
@@ -92,110 +73,64 @@ impl Machine {
     pub(crate) fn is_type_taken(&self, name: &Name) -> bool
         ensures { result ≡ is_type_taken self.now name.now }
     {
-        name.is_reserved() || self.types.contains(name)
+        self.types.is_taken(name)
     }
 
     /// Whether no new buffer may have this name.
     pub(crate) fn is_buffer_taken(&self, name: &Name) -> bool
         ensures { result ≡ is_buffer_taken self.now name.now }
     {
-        self.buffers.contains_key(name)
-    }
-
-    /// The type of a name that was made.
-    pub(crate) fn found(&self, name: &Name) -> Option<Held<'_>>
-        ensures { IsFound (under name.now self.now.types) result }
-    {
-        self.types.get(name)
+        self.buffers.contains(name)
     }
 
     /// Whether a type word stands for nothing.
-    #[tactic(auto, using(crate::proofs::TypeWords::plain_unknown, crate::proofs::TypeWords::plain_known))]
     pub(crate) fn is_unknown(&self, word: &Name) -> bool
         ensures { result ≡ is_unknown self.now word.now }
     {
-        if word.is_reserved() {
-            matches!(Kind::of_name(word.as_bytes()), Err(KindFault::Unknown))
-        } else {
-            match self.found(word) {
-                Some(_) => false,
-                None => true,
-            }
-        }
-    }
-
-    /// The basic type that a word names that begins as the names of MPI do.
-    fn basic(&self, word: &Name) -> Result<Kept, Stop>
-        requires { begins_with_mpi word.now ≡ true }
-        ensures { MatchResult result (λ kept. type_of self.now word.now ≡ Some kept) (IsMissing self.now word.now) }
-    {
-        match Kind::of_name(word.as_bytes()) {
-            Ok(kind) => Ok(Kept {
-                ty: Datatype::named(self.alloc, kind)?,
-                committed: true,
-            }),
-            Err(KindFault::Unsupported) => Err(Stop::Refused(Refusal::UnsupportedKind)),
-            Err(KindFault::Unknown) => Err(Stop::Refused(Refusal::UnknownName)),
-        }
+        self.types.is_unknown(word)
     }
 
     /// What a type word stands for: one more owner of the datatype.
     pub(crate) fn kept(&self, word: &Name) -> Result<Kept, Stop>
-        ensures { MatchResult result (λ kept. type_of self.now word.now ≡ Some kept) (IsMissing self.now word.now) }
+        ensures { MatchResult result (λ kept. type_of self.now word.now ≡ Some kept) (IsMissing self.now.types word.now) }
     {
-        if word.is_reserved() {
-            return self.basic(word);
-        }
-        match self.found(word) {
-            Some(found) => Ok(Kept {
-                ty: found.ty.share()?,
-                committed: found.committed,
-            }),
-            None => Err(Stop::Refused(Refusal::UnknownName)),
-        }
+        self.types.kept(self.alloc, word)
     }
 
     /// Whether a type word stands for a type that is committed.
     pub(crate) fn is_committed(&self, word: &Name) -> bool
         ensures { result ≡ option_map_or (λ kept. kept.committed) (type_of self.now word.now) false }
     {
-        if word.is_reserved() {
-            return Kind::of_name(word.as_bytes()).is_ok();
-        }
-        match self.found(word) {
-            Some(found) => found.committed,
-            None => false,
-        }
-    }
-
-    /// The bytes of a buffer, where it stands.
-    pub(crate) fn buffer(&self, name: &Name) -> Option<&[u8]>
-        ensures { MatchOption result (buffer_of self.now name.now ≡ None) (λ bytes. buffer_of self.now name.now ≡ Some bytes.now) }
-    {
-        match self.buffers.get(name) {
-            Some(buffer) => Some(buffer.as_slice()),
-            None => None,
-        }
+        self.types.is_committed(word)
     }
 
     /// Whether a type word stands for a basic type.
     pub(crate) fn is_basic(&self, word: &Name) -> bool
         ensures { result ≡ is_basic_word self.now word.now }
     {
-        if word.is_reserved() {
-            return Kind::of_name(word.as_bytes()).is_ok();
-        }
-        match self.found(word) {
-            Some(found) => is_basic(found.ty),
-            None => false,
-        }
+        self.types.is_basic(word)
+    }
+
+    /// What a type word stands for, or the number of the refusal of a command that uses it: that of an unknown name where it is unknown
+    /// or no name at all, that of an unsupported kind where it is the name of a datatype that is left out. It takes no memory.
+    pub fn find_type(&self, word: &[u8]) -> Result<Found<'_>, u8>
+        ensures { IsFoundType self.now.types word.now result }
+    {
+        self.types.find(word)
+    }
+
+    /// The bytes of a buffer, where it stands.
+    pub(crate) fn buffer(&self, name: &Name) -> Option<&[u8]>
+        ensures { MatchOption result (buffer_of self.now name.now ≡ None) (λ bytes. buffer_of self.now name.now ≡ Some bytes.now) }
+    {
+        self.buffers.get(name)
     }
 
     /// Whether no more types may stand, or be made.
     pub(crate) fn is_full(&self) -> bool
         ensures { IsTrue result ↔ NoMoreTypes self.now }
     {
-        self.types.len() >= MOST_TYPES || self.types.made() == u64::MAX
+        self.types.len() >= MOST_TYPES || self.types.made() == MOST_MADE
     }
 
     /// How many buffers stand.
@@ -209,17 +144,13 @@ impl Machine {
     pub(crate) fn bytes_held(&self) -> u64
         ensures { result ≡ min (bytes_held self.now) 18446744073709551615 }
     {
-        let mut held: u64 = 0;
-        for (_name, buffer) in &self.buffers {
-            held = held.saturating_add(buffer.len() as u64);
-        }
-        held
+        self.buffers.bytes_held()
     }
 
     /// Makes a change, and counts the command.
     fn change(&mut self, change: Change) -> Result<(), NoMemory>
         requires { CanChange change self.old }
-        ensures ok { OnOk result (self.new ≡ counted (changed change self.old)) }
+        ensures ok { OnOk result (self.new ≡ with_count (changed change self.old)) }
         ensures err { OnErr result (self.new ≡ self.old) }
     {
         match change {
@@ -227,24 +158,25 @@ impl Machine {
             Change::AddType { name, kept } => self.types.add(name, kept)?,
             Change::Commit { name } => self.types.commit(&name),
             Change::Free { name } => self.types.free(&name),
-            Change::AddBuffer { name, buffer } => {
-                self.buffers.insert(name, buffer)?;
-            }
+            Change::AddBuffer { name, buffer } => self.buffers.add(name, buffer)?,
         }
         self.totals.commands = self.totals.commands.saturating_add(1);
         Ok(())
     }
 
-    /// Replies to a command that is allowed, and makes its change. All memory is taken before anything changes.
+    /// Replies to a command that is allowed, and makes its change. The line is written before anything changes.
     fn perform(&mut self, outcome: Outcome, out: &mut Vec<u8>) -> Result<bool, NoMemory>
         requires { CanChange outcome.change self.old }
-        ensures ok { IfOk result (λ accepted. (accepted ≡ true) × (self.new ≡ counted (changed outcome.change self.old)) × (out.new.items ≡ out.old.items ++ outcome.line.items)) }
+        ensures ok { IfOk result (λ accepted. (accepted ≡ true) × (self.new ≡ with_count (changed outcome.change self.old)) × (out.new.items ≡ out.old.items ++ text_of outcome.reply)) }
         ensures err { OnErr result ((self.new ≡ self.old) × (out.new.items ≡ out.old.items)) }
     {
-        let Outcome { line, change } = outcome;
-        out.reserve(line.len())?;
-        self.change(change)?;
-        out.extend_from_slice(&line).unwrap();
+        let Outcome { reply, change } = outcome;
+        let before = out.len();
+        reply.write(self.alloc, out)?;
+        let Ok(()) = self.change(change) else {
+            out.truncate(before);
+            return Err(NoMemory);
+        };
         Ok(true)
     }
 
@@ -253,8 +185,7 @@ impl Machine {
         ensures ok { IfOk result (λ accepted. Gives (Refused refusal) accepted out.old.items out.new.items) }
         ensures err { OnErr result (out.new.items ≡ out.old.items) }
     {
-        let line = refusal_line(self.alloc, refusal)?;
-        out.extend_from_slice(&line)?;
+        Reply::Refused(refusal).write(self.alloc, out)?;
         Ok(false)
     }
 

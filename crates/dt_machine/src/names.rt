@@ -1,21 +1,33 @@
 //! Commands on names of types: `child NAME = TYPE INT`, `commit TYPE`, `free TYPE`.
-ghost use Rattle.std.specs.Prelude.{◌≡◌, false, is_none, MatchOption};
-ghost use Rattle.dt_machine.specs.declared.outcome.Stop.TheVariants.{Refused};
-ghost use Rattle.dt_machine.specs.Outcome.{ComesTo, IsMissing, IsFreeFor, IsTakenFor};
-ghost use Rattle.dt_machine.specs.State.{type_of};
+ghost use Rattle.std.specs.Prelude.{◌≡◌, false, is_none, [], MatchOption};
+ghost use Rattle.dt_kinds.specs.Name.{is_left_out};
+ghost use Rattle.dt_names.specs.declared.stop.Stop.TheVariants.{Refused};
+ghost use Rattle.dt_machine.specs.Outcome.{ComesTo};
+ghost use Rattle.dt_names.specs.Missing.{IsMissing};
+ghost use Rattle.dt_machine.specs.Refusal.{new_type_row};
+ghost use Rattle.dt_machine.specs.Row.{IsFirst, IsClear};
+ghost use Rattle.dt_machine.specs.State.{type_of, is_unknown};
 ghost use Rattle.dt_script.specs.declared.command.Command.TheVariants.{Child, Commit, Free};
+ghost use Rattle.dt_type.specs.Basic.{is_basic};
 
-use crate::machine::{Machine, is_basic, is_left_out};
-use crate::outcome::{Change, Outcome, Stop, done};
-use crate::state::Kept;
+use crate::machine::Machine;
+use crate::outcome::{Change, Outcome, done};
+use dt_names::{Kept, Stop, is_left_out};
 use dt_reply::Refusal;
 use dt_script::Name;
-use dt_type::ChildFault;
+use dt_type::{ChildFault, Datatype, FormOf};
+
+/// Whether a datatype is basic.
+fn is_basic(ty: &Datatype) -> bool
+    ensures { result ≡ is_basic ty.now }
+{
+    matches!(ty.form(), FormOf::Named(_))
+}
 
 impl Machine {
     /// Why a type word stands for nothing.
     fn missing(&self, word: &Name) -> Option<Refusal>
-        ensures { MatchOption result (is_none (type_of self.now word.now) ≡ false) (λ refusal. IsMissing self.now word.now (Refused refusal)) }
+        ensures { MatchOption result (is_none (type_of self.now word.now) ≡ false) (λ refusal. IsMissing self.now.types word.now (Refused refusal)) }
     {
         if self.is_unknown(word) {
             Some(Refusal::UnknownName)
@@ -34,10 +46,10 @@ impl Machine {
             return Err(Stop::Refused(refusal));
         }
         if ty.is_reserved() {
-            return done(self.alloc, Change::Nothing);
+            return Ok(done(Change::Nothing));
         }
         let name = ty.copied()?;
-        done(self.alloc, Change::Commit { name })
+        Ok(done(Change::Commit { name }))
     }
 
     /// `free TYPE`
@@ -51,12 +63,12 @@ impl Machine {
             return Err(Stop::Refused(Refusal::BasicType));
         }
         let name = ty.copied()?;
-        done(self.alloc, Change::Free { name })
+        Ok(done(Change::Free { name }))
     }
 
     /// Why no old type of a type is named, by the names alone.
     fn refused_child(&self, name: &Name, ty: &Name) -> Option<Refusal>
-        ensures { MatchOption result (IsFreeFor self.now name.now ty.now) (λ refusal. IsTakenFor self.now name.now ty.now refusal) }
+        ensures { MatchOption result (IsClear (new_type_row self.now name.now (is_unknown self.now ty.now) (is_left_out ty.now) [])) (IsFirst (new_type_row self.now name.now (is_unknown self.now ty.now) (is_left_out ty.now) [])) }
     {
         if self.is_unknown(ty) {
             Some(Refusal::UnknownName)
@@ -95,6 +107,6 @@ impl Machine {
             ty: child,
             committed,
         };
-        done(self.alloc, Change::AddType { name, kept })
+        Ok(done(Change::AddType { name, kept }))
     }
 }

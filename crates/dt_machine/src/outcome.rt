@@ -1,13 +1,10 @@
 //! What a command comes to, before anything changes.
-ghost use Rattle.std.specs.Prelude.{◌≡◌, MatchResult};
-ghost use Rattle.dt_machine.specs.Outcome.{IsDone, IsTold};
+ghost use Rattle.std.specs.Prelude.{◌≡◌};
+ghost use Rattle.dt_reply.specs.declared.reply.Reply.TheVariants.{Done};
 
-use crate::buffer::Buffer;
-use crate::state::Kept;
-use dt_kinds::NoMemory;
-use dt_reply::{Refusal, ok_line};
+use dt_names::{Buffer, Kept};
+use dt_reply::Reply;
 use dt_script::Name;
-use std::alloc::{AllocError, Global};
 
 /// What a command adds to what stands.
 #[derive(Drop)]
@@ -22,49 +19,26 @@ pub(crate) enum Change {
 /// The reply to a command that is allowed, and the change that it makes.
 #[derive(Drop)]
 pub(crate) struct Outcome {
-    pub(crate) line: Vec<u8>,
+    pub(crate) reply: Reply,
     pub(crate) change: Change,
 }
 
-/// Why a command isn't performed.
-#[derive(Clone, Copy)]
-pub(crate) enum Stop {
-    Refused(Refusal),
-    NoMemory,
-}
-
-impl From<NoMemory> for Stop {
-    ghost use Rattle.std.specs.Prelude.{◌≡◌};
-    ghost use Rattle.dt_machine.specs.declared.outcome.Stop.TheVariants.{NoMemory as WithoutMemory};
-
-    ghost from_gives = { λ _ stop. stop ≡ WithoutMemory };
-
-    fn from(_error: NoMemory) -> Stop {
-        Stop::NoMemory
-    }
-}
-
-impl From<AllocError> for Stop {
-
-    ghost from_gives = { λ _ stop. stop ≡ WithoutMemory };
-
-    fn from(_error: AllocError) -> Stop {
-        Stop::NoMemory
-    }
-}
-
 /// The outcome `ok`, with a change.
-pub(crate) fn done(alloc: Global, change: Change) -> Result<Outcome, Stop>
-    ensures { MatchResult result (IsDone change) (λ stop. stop ≡ Stop.NoMemory) }
+pub(crate) fn done(change: Change) -> Outcome
+    ensures { result ≡ record { reply = Done; change = change } }
 {
-    let line = Vec::from_slice(alloc, ok_line())?;
-    Ok(Outcome { line, change })
+    Outcome {
+        reply: Reply::Done,
+        change,
+    }
 }
 
 /// An outcome that changes nothing.
-pub(crate) fn told(line: Vec<u8>) -> Outcome
-    ensures { IsTold line.items result }
+pub(crate) fn told(reply: Reply) -> Outcome
+    ensures { result ≡ record { reply = reply; change = Change.Nothing } }
 {
-    let change = Change::Nothing;
-    Outcome { line, change }
+    Outcome {
+        reply,
+        change: Change::Nothing,
+    }
 }

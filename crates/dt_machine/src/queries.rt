@@ -3,14 +3,13 @@
 ghost use Rattle.dt_machine.specs.Outcome.{ComesTo};
 ghost use Rattle.dt_script.specs.declared.command.Command.TheVariants.{Contents, Envelope, Info, Map, Show};
 
+use crate::limits::MOST_ENTRIES;
 use crate::machine::Machine;
-use crate::outcome::{Outcome, Stop, told};
-use dt_reply::{Refusal, contents_line, envelope_line, info_line, map_line, shown_line};
-use dt_script::Name;
+use crate::outcome::{Outcome, told};
+use dt_names::Stop;
+use dt_reply::{Refusal, Reply};
+use dt_script::{Bytes, Name};
 use dt_type::{ContentsFault, FlattenFault};
-
-/// So many entries `map` lists.
-const MOST_ENTRIES: u64 = 4096;
 
 impl Machine {
     /// `info TYPE`
@@ -21,8 +20,7 @@ impl Machine {
             Ok(kept) => kept,
             Err(stop) => return Err(stop),
         };
-        let line = info_line(self.alloc, kept.ty.bounds(), kept.committed)?;
-        Ok(told(line))
+        Ok(told(Reply::Told(kept.ty.bounds(), kept.committed)))
     }
 
     /// `map TYPE`
@@ -38,8 +36,7 @@ impl Machine {
             Err(FlattenFault::TooMany) => return Err(Stop::Refused(Refusal::TooManyEntries)),
             Err(FlattenFault::NoMemory) => return Err(Stop::NoMemory),
         };
-        let line = map_line(self.alloc, &map)?;
-        Ok(told(line))
+        Ok(told(Reply::Listed(map)))
     }
 
     /// `envelope TYPE`
@@ -50,8 +47,7 @@ impl Machine {
             Ok(kept) => kept,
             Err(stop) => return Err(stop),
         };
-        let line = envelope_line(self.alloc, kept.ty.envelope())?;
-        Ok(told(line))
+        Ok(told(Reply::Described(kept.ty.envelope())))
     }
 
     /// `contents TYPE`
@@ -67,8 +63,7 @@ impl Machine {
             Err(ContentsFault::Named) => return Err(Stop::Refused(Refusal::NamedType)),
             Err(ContentsFault::NoMemory) => return Err(Stop::NoMemory),
         };
-        let line = contents_line(self.alloc, &contents)?;
-        Ok(told(line))
+        Ok(told(Reply::Contained(contents)))
     }
 
     /// `show BUFFER`
@@ -78,7 +73,7 @@ impl Machine {
         let Some(bytes) = self.buffer(buffer) else {
             return Err(Stop::Refused(Refusal::UnknownName));
         };
-        let line = shown_line(self.alloc, bytes)?;
-        Ok(told(line))
+        let bytes = Vec::from_slice(self.alloc, bytes)?;
+        Ok(told(Reply::Shown(Bytes::from_vec(bytes))))
     }
 }

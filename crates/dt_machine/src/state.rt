@@ -1,13 +1,4 @@
-//! What stands in a machine, and what it has counted.
-
-use dt_type::Datatype;
-
-/// A type that stands, and whether it is committed (MPI 4.1, section 5.1.9).
-#[derive(Drop)]
-pub struct Kept {
-    pub ty: Datatype,
-    pub committed: bool,
-}
+//! What a machine has counted.
 
 /// What was done so far. Each number stops at 2^64 - 1.
 #[derive(Clone, Copy, Debug, PartialEq, Eq)]

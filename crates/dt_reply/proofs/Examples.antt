@@ -12,7 +12,8 @@ use Rattle.dt_form.specs.declared.form.FormOf.TheVariants.{Named, Vector, Hindex
 use Rattle.dt_form.specs.Contents.{contents_of, envelope_of}
 use Rattle.dt_type.specs.Form.{result_of}
 use Rattle.dt_reply.specs.declared.refusal.Refusal.TheVariants.{TooHeavy}
-use Rattle.dt_reply.specs.Reply.{Packed, Shown, Told, Listed, Described, Contained, Refused, text_of, line_of, info_words, sizes_words, extent_words, true_bounds_words, map_words, envelope_words, number_words, contents_words, listed_words}
+use Rattle.dt_reply.specs.Reply.{text_of, line_of, info_words, sizes_words, extent_words, true_bounds_words, map_words, envelope_words, number_words, contents_words, listed_words}
+use Rattle.dt_reply.specs.declared.reply.Reply.TheVariants.{Packed, Shown, Told, Listed, Described, Contained, Refused}
 
 abbrev int_at : ℤ → Entry
 int_at x = record { kind = Int; disp = x }

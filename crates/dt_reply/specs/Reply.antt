@@ -16,21 +16,9 @@ use Rattle.dt_form.specs.declared.form.FormOf.{FormOf}
 use Rattle.dt_form.specs.declared.form.FormOf.TheVariants.{Named}
 use Rattle.dt_form.specs.Contents.{combiner_of}
 use Rattle.dt_type.specs.Datatype.{form_of}
-use Rattle.dt_reply.specs.declared.refusal.Refusal.{Refusal}
 use Rattle.dt_reply.specs.Refusal.{number_of, word_of}
-
--- nothing, as to a blank or comment line; `ok`; packed bytes; the bytes of a buffer; the bounds of a type, and whether it is
--- committed; a typemap with its marks; an envelope; contents; or a refusal
-pub data Reply : Type 0 where
-  Silent : Reply
-  Done : Reply
-  Packed : List ℕ → Reply
-  Shown : List ℕ → Reply
-  Told : Bounds → Bool → Reply
-  Listed : Marked → Reply
-  Described : Envelope → Reply
-  Contained : ContentsOf Seen → Reply
-  Refused : Refusal → Reply
+use Rattle.dt_reply.specs.declared.reply.Reply.{Reply}
+use Rattle.dt_reply.specs.declared.reply.Reply.TheVariants.{Silent, Done, Packed, Shown, Told, Listed, Described, Contained, Refused}
 
 -- a word behind a space
 abbrev pub spaced : List ℕ → List ℕ

@@ -8,6 +8,6 @@ mod text;
 
 pub use refusal::Refusal;
 pub use reply::{
-    OK, contents_line, envelope_line, info_line, map_line, ok_line, packed_line, refusal_line,
-    shown_line,
+    OK, Reply, contents_line, envelope_line, info_line, map_line, ok_line, packed_line,
+    refusal_line, shown_line,
 };

@@ -1,6 +1,7 @@
-//! The lines that are replied. Each is made in new memory, and `NoMemory` is answered where that runs out.
-ghost use Rattle.std.specs.Prelude.{◌≡◌, IfOk};
-ghost use Rattle.dt_reply.specs.Reply.{Contained, Described, Done, Listed, Packed, Refused, Shown, Told, text_of, bytes_words, line_of};
+//! What is replied, and the line that says so. Each line is made in new memory, and `NoMemory` is answered where that runs out.
+ghost use Rattle.std.specs.Prelude.{◌≡◌, ◌++◌, IfOk, OnOk, OnErr};
+ghost use Rattle.dt_reply.specs.Reply.{text_of, is_accepted, bytes_words, line_of};
+ghost use Rattle.dt_reply.specs.declared.reply.Reply.TheVariants.{Contained, Described, Done, Listed, Packed, Refused, Shown, Told};
 
 use crate::arguments::{push_envelope, push_listed, push_types};
 use crate::refusal::Refusal;
@@ -10,6 +11,7 @@ use crate::text::{
 };
 use dt_kinds::NoMemory;
 use dt_map::{Bounds, FlatMap};
+use dt_script::Bytes;
 use dt_type::{Contents, Envelope};
 use std::alloc::Global;
 
@@ -118,4 +120,63 @@ pub fn contents_line(alloc: Global, contents: &Contents) -> Result<Vec<u8>, NoMe
     push_types(&mut line, contents.types.as_slice())?;
     line.extend_from_slice(b"\n")?;
     Ok(line)
+}
+
+/// What is replied to a line.
+#[derive(Drop)]
+pub enum Reply {
+    /// Nothing, to a blank or comment line.
+    Silent,
+    /// `ok`
+    Done,
+    /// Packed bytes.
+    Packed(Bytes),
+    /// The bytes of a buffer.
+    Shown(Bytes),
+    /// The bounds of a type, and whether it is committed.
+    Told(Bounds, bool),
+    /// A typemap with its marks.
+    Listed(FlatMap),
+    /// An envelope.
+    Described(Envelope),
+    /// Contents.
+    Contained(Contents),
+    /// A refusal.
+    Refused(Refusal),
+}
+
+impl Reply {
+    /// The line of the reply: none for `Silent`.
+    fn line(&self, alloc: Global) -> Result<Vec<u8>, NoMemory>
+        ensures { IfOk result (λ line. line.items ≡ text_of self.now) }
+    {
+        match self {
+            Reply::Silent => Ok(Vec::new(alloc)),
+            Reply::Done => Ok(Vec::from_slice(alloc, ok_line())?),
+            Reply::Packed(bytes) => packed_line(alloc, bytes.as_slice()),
+            Reply::Shown(bytes) => shown_line(alloc, bytes.as_slice()),
+            Reply::Told(bounds, committed) => info_line(alloc, *bounds, *committed),
+            Reply::Listed(map) => map_line(alloc, map),
+            Reply::Described(envelope) => envelope_line(alloc, *envelope),
+            Reply::Contained(contents) => contents_line(alloc, contents),
+            Reply::Refused(refusal) => refusal_line(alloc, *refusal),
+        }
+    }
+
+    /// Appends the line of the reply. Where memory runs out, `out` is as before.
+    pub fn write(&self, alloc: Global, out: &mut Vec<u8>) -> Result<(), NoMemory>
+        ensures ok { OnOk result (out.new.items ≡ out.old.items ++ text_of self.now) }
+        ensures err { OnErr result (out.new.items ≡ out.old.items) }
+    {
+        let line = self.line(alloc)?;
+        out.extend_from_slice(&line)?;
+        Ok(())
+    }
+
+    /// Whether the reply is no refusal.
+    pub fn is_accepted(&self) -> bool
+        ensures { result ≡ is_accepted self.now }
+    {
+        !matches!(self, Reply::Refused(_))
+    }
 }

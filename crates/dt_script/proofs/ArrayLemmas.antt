@@ -9,7 +9,7 @@ use Rattle.dt_form.specs.declared.form.Order.{Order}
 use Rattle.dt_form.specs.declared.form.Order.TheVariants.{C, Fortran}
 use Rattle.dt_form.specs.declared.form.SubDim.{SubDim}
 use Rattle.dt_script.specs.Array.{order_of, dist_of, darg_of}
-use Rattle.dt_script.specs.Command.{IsOrder, IsDist, IsDarg, IsSubDim, IsDistDim}
+use Rattle.dt_script.specs.Item.{IsOrder, IsDist, IsDarg, IsSubDim, IsDistDim}
 use Rattle.dt_script.specs.Number.{int_of}
 use Rattle.dt_script.specs.Reading.{cut_of, colon_cut, sub_dim_of, dist_dim_of}
 use Rattle.dt_script.proofs.CutLemmas.{cut_sound, int_cut}

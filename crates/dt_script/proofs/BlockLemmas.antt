@@ -3,7 +3,7 @@ use Rattle.std.proofs.Common.{◌≡◌, ℕ, List, ◌∷◌, ◌++◌, Some, r
 use Rattle.dt_form.specs.declared.form.IntBlock.{IntBlock}
 use Rattle.dt_form.specs.declared.form.AddrBlock.{AddrBlock}
 use Rattle.dt_script.specs.declared.command.NamedPart.{NamedPart}
-use Rattle.dt_script.specs.Command.{IsIntBlock, IsAddrBlock, IsPart}
+use Rattle.dt_script.specs.Item.{IsIntBlock, IsAddrBlock, IsPart}
 use Rattle.dt_script.specs.Name.{name_of}
 use Rattle.dt_script.specs.Number.{int_of, address_of}
 use Rattle.dt_script.specs.Reading.{at_sign_cut, int_block_of, address_block_of, part_of}

@@ -3,6 +3,9 @@ pub mod BlockLemmas
 pub mod CommandLemmas
 pub mod CtorLemmas
 pub mod CutLemmas
+pub mod FormLemmas
+pub mod InputLemmas
+pub mod ItemLemmas
 pub mod LineLemmas
 pub mod ReadingLemmas
 pub mod WordLemmas

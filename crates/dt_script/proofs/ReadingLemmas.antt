@@ -3,12 +3,9 @@ use Rattle.std.proofs.Common.{◌≡◌, ℕ, Bool, true, false, cond, List, [],
 use Rattle.std.proofs.lemmas.Slice.Eq.{bytes_eq-Decides}
 use Rattle.std.specs.Bool.{IsTrue}
 use Rattle.std.specs.Str.{bytes_eq}
-use Rattle.dt_script.specs.Command.{Are}
+use Rattle.dt_script.specs.Item.{IsName, Words, Are}
 use Rattle.dt_script.specs.Name.{is_name, name_of}
-use Rattle.dt_script.specs.Reading.{◌>>=◌, end_at, keyword_at, item_at, items_at}
-
-abbrev pub Words : Type 0
-Words = List (List ℕ)
+use Rattle.dt_script.specs.Reading.{◌>>=◌, keyword_at, item_at, items_at}
 
 pub bind_some : {A B : Type 0} (o : Option A) (f : A → Option B) (y : B) → (o >>= f) ≡ Some y → (x : A) × (o ≡ Some x) × (f x ≡ Some y)
 bind_some None f y e = cc
@@ -28,9 +25,8 @@ name_some word x e =
     let P : List ℕ → Type 0 = λ v. IsTrue (is_name v) in
     (same, subst P same is)
 
-pub end_some : {B : Type 0} (ws : Words) (f : Unit {0} → Option B) (y : B) → (end_at ws >>= f) ≡ Some y → (ws ≡ []) × (f tt ≡ Some y)
-end_some [] f y e = (refl, e)
-end_some (w ∷ ws) f y e = cc
+pub name_complete : (word x : List ℕ) → IsName word x → name_of word ≡ Some x
+name_complete word x (same, is) = rw (same, is) refl
 
 keyword_on : {B : Type 0} (b : Bool) (ws : Words) (f : Words → Option B) (y : B) → (cond b (Some ws) None >>= f) ≡ Some y → (b ≡ true) × (f ws ≡ Some y)
 keyword_on true ws f y e = (refl, e)
@@ -54,26 +50,6 @@ pub item_some : {A B : Type 0} (read : List ℕ → Option A) (ws : Words) (f : 
 unfolding item_at
 item_some read [] f y e = cc
 item_some read (w ∷ ws) f y e = let (x, is, told) = item_on (read w) ws f y e in (w, x, ws, refl, is, told)
-
-pub named_some : {B : Type 0} (ws : Words) (f : List ℕ × Words → Option B) (y : B) → (item_at name_of ws >>= f) ≡ Some y
-    → (x : List ℕ) × (rest : Words) × (ws ≡ x ∷ rest) × IsTrue (is_name x) × (f (x, rest) ≡ Some y)
-named_some ws f y e =
-    let (w, x, rest, at, is, told) = item_some name_of ws f y e in
-    let (same, name) = name_some w x is in
-    (x, rest, at ∙ ap (λ v. v ∷ rest) same, name, told)
-
--- what stands behind the first word of some words
-pub next : {ws rest tail : Words} {w : List ℕ} → ws ≡ w ∷ rest → rest ≡ tail → ws ≡ w ∷ tail
-next {w} e f = e ∙ ap (λ r. w ∷ r) f
-
--- the words of a form that its first word picks
-pub pick : {A : Type 0} (Is : Words → A → Type 0) (k w : List ℕ) (ws : Words) (form : Words → Option A) (other : Option A) (y : A)
-    → ((ws : Words) (y : A) → form ws ≡ Some y → Is (k ∷ ws) y)
-    → cond (bytes_eq w k) (form ws) other ≡ Some y → (other ≡ Some y → Is (w ∷ ws) y) → Is (w ∷ ws) y
-pick Is k w ws form other y sound e else =
-    let P : List ℕ → Type 0 = λ v. Is (v ∷ ws) y in
-    elim (bytes_eq w k) as (λ b. (bytes_eq w k ≡ b) → cond b (form ws) other ≡ Some y → Is (w ∷ ws) y)
-    [ true ↦ λ is told. subst P (sym ((bytes_eq-Decides w k).0 is)) (sound ws y told) | false ↦ λ is told. else told ] refl e
 
 pub are_sound : {A : Type 0} (Is : List ℕ → A → Type 0) (read : List ℕ → Option A) → ((w : List ℕ) (x : A) → read w ≡ Some x → Is w x)
     → (ws : Words) (xs : List A) → items_at read ws ≡ Some xs → Are Is ws xs

@@ -1,9 +1,13 @@
 pub mod Array
 pub mod Command
+pub mod Form
 pub mod Forms
 pub mod Hex
+pub mod Item
 pub mod Line
+pub mod Lines
 pub mod Name
 pub mod Number
+pub mod Olds
 pub mod Reading
 pub mod Words

@@ -5,10 +5,12 @@ use Rattle.dt_form.specs.declared.form.IntBlock.{IntBlock}
 use Rattle.dt_form.specs.declared.form.AddrBlock.{AddrBlock}
 use Rattle.dt_form.specs.declared.form.DistDim.{DistDim}
 use Rattle.dt_form.specs.declared.form.SubDim.{SubDim}
-use Rattle.dt_script.specs.Array.{dist_of, darg_of}
+use Rattle.dt_script.specs.Array.{order_of, dist_of, darg_of}
 use Rattle.dt_script.specs.declared.command.NamedPart.{NamedPart}
 use Rattle.dt_script.specs.declared.line.LineFault.{LineFault}
 use Rattle.dt_script.specs.declared.line.LineFault.TheVariants.{Syntax}
+use Rattle.dt_script.specs.Hex.{hex_of}
+use Rattle.dt_script.specs.Item.{Item, INT, ADDR, NAME, HEX, ORDER, INT_BLOCK, ADDR_BLOCK, PART, SUB_DIM, DIST_DIM, Value}
 use Rattle.dt_script.specs.Name.{name_of}
 use Rattle.dt_script.specs.Number.{int_of, address_of}
 
@@ -42,6 +44,13 @@ item_at read words = do
   word ← word_at words
   item ← read word.0
   Some (item, word.1)
+
+-- what the next word spells, and what the words behind it do
+abbrev pub pair_at : {A B : Type 0} → (List ℕ → Option A) → (List (List ℕ) → Option B) → List (List ℕ) → Option (A × B)
+pair_at read others words = do
+  item ← item_at read words
+  more ← others item.1
+  Some (item.0, more)
 
 -- what all the words spell
 abbrev pub items_at : {A : Type 0} → (List ℕ → Option A) → List (List ℕ) → Option (List A)
@@ -108,3 +117,16 @@ dist_dim_of word = do
   darg ← darg_of last.0
   psize ← int_of last.1
   Some (record { gsize = gsize; dist = dist; darg = darg; psize = psize })
+
+-- what a word of a kind spells
+abbrev pub item_of : (i : Item) → List ℕ → Option (Value i)
+item_of INT = int_of
+item_of ADDR = address_of
+item_of NAME = name_of
+item_of HEX = hex_of
+item_of ORDER = order_of
+item_of INT_BLOCK = int_block_of
+item_of ADDR_BLOCK = address_block_of
+item_of PART = part_of
+item_of SUB_DIM = sub_dim_of
+item_of DIST_DIM = dist_dim_of

@@ -38,6 +38,9 @@ impl Bytes {
         if word == b"-".as_slice() {
             return Ok(Bytes::from_vec(Vec::new(alloc)));
         }
+        if word.is_empty() {
+            return Err(LineFault::Syntax);
+        }
         match hex::decode(alloc, word) {
             Ok(bytes) => Ok(Bytes::from_vec(bytes)),
             Err(FromHexError::OutOfMemory) => Err(LineFault::NoMemory),

@@ -1,3 +1,6 @@
+ghost use Rattle.std.specs.Prelude.{◌≡◌, ℕ, Bool, List};
+ghost use Rattle.std.specs.List.{list_any};
+
 use crate::bytes::Bytes;
 use crate::name::Name;
 use dt_form::{AddrBlock, DistDim, IntBlock, Order, SubDim};
@@ -135,6 +138,42 @@ pub enum Ctor {
         old: Name,
         dims: Items<DistDim>,
     },
+}
+
+/// A test of the words that name types.
+pub trait WordTest {
+    ghost test: { Self → List ℕ → Bool };
+
+    /// Whether a word passes.
+    fn passes(&self, word: &Name) -> bool
+        ensures { result ≡ test self.now word.now };
+}
+
+/// Whether the word of some part passes a test.
+fn any_part<T: WordTest>(parts: &[NamedPart], test: &T) -> bool
+    ensures { result ≡ list_any (λ part. T.test test.now part.old) parts.now }
+{
+    parts.iter().any(|part| test.passes(&part.old))
+}
+
+impl Ctor {
+    ghost use Rattle.dt_script.specs.Olds.{any_old};
+
+    /// Whether some word that names an old type passes a test.
+    pub fn any_old<T: WordTest>(&self, test: &T) -> bool
+        ensures { result ≡ any_old (T.test test.now) self.now }
+    {
+        match self {
+            Ctor::Struct { parts } => any_part(parts.as_slice(), test),
+            Ctor::Contiguous { old, .. } | Ctor::Vector { old, .. } | Ctor::Hvector { old, .. } => {
+                test.passes(old)
+            }
+            Ctor::Indexed { old, .. } | Ctor::Hindexed { old, .. } => test.passes(old),
+            Ctor::IndexedBlock { old, .. } | Ctor::HindexedBlock { old, .. } => test.passes(old),
+            Ctor::Resized { old, .. } | Ctor::Dup { old } => test.passes(old),
+            Ctor::Subarray { old, .. } | Ctor::Darray { old, .. } => test.passes(old),
+        }
+    }
 }
 
 /// A part of a struct: so many copies of an old type, from `disp` bytes on.

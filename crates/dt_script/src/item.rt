@@ -1,14 +1,15 @@
 //! Words that spell a number, or pieces with `@` or `:` between.
 ghost use Rattle.std.specs.Prelude.{◌≡◌, List, ℕ, Option, MatchOption, Some, None};
+ghost use Rattle.dt_script.specs.Array.{order_of};
 ghost use Rattle.dt_script.specs.Name.{name_of};
 ghost use Rattle.dt_script.specs.Number.{int_of, address_of};
 ghost use Rattle.dt_script.specs.Reading.{cut_of, int_block_of, address_block_of, part_of, sub_dim_of, dist_dim_of};
 
-use crate::array::{darg, dist};
+use crate::array::{darg, dist, order};
 use crate::command::NamedPart;
 use crate::name::Name;
 use crate::number::{address, int};
-use dt_form::{AddrBlock, DistDim, IntBlock, SubDim};
+use dt_form::{AddrBlock, DistDim, IntBlock, Order, SubDim};
 
 /// What one word can spell.
 pub(crate) trait Item: Sized {
@@ -31,6 +32,22 @@ impl Item for i64 {
 
     fn of_word(word: &[u8]) -> Option<i64> {
         address(word)
+    }
+}
+
+impl Item for Name {
+    ghost item_of = { name_of };
+
+    fn of_word(word: &[u8]) -> Option<Name> {
+        Name::new(word)
+    }
+}
+
+impl Item for Order {
+    ghost item_of = { order_of };
+
+    fn of_word(word: &[u8]) -> Option<Order> {
+        order(word)
     }
 }
 

@@ -6,7 +6,7 @@ ghost use Rattle.dt_script.specs.Line.{IsRead, begins_with_hash, is_passed_over,
 use crate::command::Command;
 use crate::forms::command;
 use crate::words::{is_blank, next_word};
-use std::alloc::Global;
+use std::alloc::{AllocError, Global};
 use thiserror::Error;
 
 /// Why a line gives no command.
@@ -16,6 +16,17 @@ pub enum LineFault {
     Syntax,
     #[error("memory ran out")]
     NoMemory,
+}
+
+impl From<AllocError> for LineFault {
+    ghost use Rattle.std.specs.Prelude.{◌≡◌};
+    ghost use Rattle.dt_script.specs.declared.line.LineFault.TheVariants.{NoMemory as WithoutMemory};
+
+    ghost from_gives = { λ _ fault. fault ≡ WithoutMemory };
+
+    fn from(_error: AllocError) -> LineFault {
+        LineFault::NoMemory
+    }
 }
 
 /// Whether a byte may stand in a line that is no comment.

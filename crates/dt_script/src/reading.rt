@@ -2,19 +2,13 @@
 ghost use Rattle.std.specs.Prelude.{◌≡◌, ℕ, List};
 ghost use Rattle.std.specs.Borrow.{Bor};
 ghost use Rattle.dt_script.specs.Words.{words_of};
-ghost use Rattle.dt_script.specs.Array.{order_of};
 ghost use Rattle.dt_script.specs.Hex.{hex_of};
-ghost use Rattle.dt_script.specs.Name.{name_of};
-ghost use Rattle.dt_script.specs.Number.{int_of, address_of};
 ghost use Rattle.dt_script.specs.Reading.{Gives, word_at, end_at, keyword_at, item_at, items_at};
 
 use crate::bytes::Bytes;
 use crate::item::Item;
 use crate::line::LineFault;
-use crate::name::Name;
 use crate::words::next_word;
-use crate::{array, number};
-use dt_form::Order;
 use sqlite_items::Items;
 use std::alloc::Global;
 
@@ -51,50 +45,14 @@ pub(crate) fn keyword<'a>(keyword: &[u8], line: &'a [u8]) -> Result<&'a [u8], Li
     }
 }
 
-/// A name.
+/// What the next word spells.
 #[tactic(auto, unfolding(crate::specs::Reading::item_at))]
-pub(crate) fn name(line: &[u8]) -> Result<(Name, &[u8]), LineFault>
-    ensures { Gives (λ x. (x.0, words_of x.1.now)) result (item_at name_of (words_of line.now)) }
+pub(crate) fn item<T: Item>(line: &[u8]) -> Result<(T, &[u8]), LineFault>
+    ensures { Gives (λ x. (x.0, words_of x.1.now)) result (item_at T.item_of (words_of line.now)) }
 {
     let (found, rest) = word(line)?;
-    match Name::new(found) {
-        Some(name) => Ok((name, rest)),
-        None => Err(LineFault::Syntax),
-    }
-}
-
-/// A number that an `i32` holds.
-#[tactic(auto, unfolding(crate::specs::Reading::item_at))]
-pub(crate) fn int(line: &[u8]) -> Result<(i32, &[u8]), LineFault>
-    ensures { Gives (λ x. (x.0, words_of x.1.now)) result (item_at int_of (words_of line.now)) }
-{
-    let (found, rest) = word(line)?;
-    match number::int(found) {
-        Some(x) => Ok((x, rest)),
-        None => Err(LineFault::Syntax),
-    }
-}
-
-/// A number that an `i64` holds.
-#[tactic(auto, unfolding(crate::specs::Reading::item_at))]
-pub(crate) fn address(line: &[u8]) -> Result<(i64, &[u8]), LineFault>
-    ensures { Gives (λ x. (x.0, words_of x.1.now)) result (item_at address_of (words_of line.now)) }
-{
-    let (found, rest) = word(line)?;
-    match number::address(found) {
-        Some(x) => Ok((x, rest)),
-        None => Err(LineFault::Syntax),
-    }
-}
-
-/// An order of indices.
-#[tactic(auto, unfolding(crate::specs::Reading::item_at))]
-pub(crate) fn order(line: &[u8]) -> Result<(Order, &[u8]), LineFault>
-    ensures { Gives (λ x. (x.0, words_of x.1.now)) result (item_at order_of (words_of line.now)) }
-{
-    let (found, rest) = word(line)?;
-    match array::order(found) {
-        Some(order) => Ok((order, rest)),
+    match T::of_word(found) {
+        Some(item) => Ok((item, rest)),
         None => Err(LineFault::Syntax),
     }
 }
@@ -119,9 +77,7 @@ pub(crate) fn items<T: Item + Drop>(alloc: Global, line: &[u8]) -> Result<Items<
         let Some(item) = T::of_word(word) else {
             return Err(LineFault::Syntax);
         };
-        let Ok(()) = items.push(item) else {
-            return Err(LineFault::NoMemory);
-        };
+        items.push(item)?;
         rest = after;
     }
     Ok(items)

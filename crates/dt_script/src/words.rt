@@ -1,4 +1,4 @@
-ghost use Rattle.std.specs.Prelude.{◌≡◌, ◌≢◌, ◌≤◌, List, length, MatchOption, [], ◌∷◌, false};
+ghost use Rattle.std.specs.Prelude.{◌≡◌, ◌≢◌, ◌≤◌, ℕ, Bool, List, length, MatchOption, [], ◌∷◌, false};
 ghost use Rattle.std.specs.List.{position_or_len};
 ghost use Rattle.dt_script.specs.Words.{is_blank, begins_blank, words_of};
 
@@ -24,24 +24,43 @@ fn without_blanks(line: &[u8]) -> &[u8]
     rest
 }
 
-/// How many bytes stand before the first blank.
-fn word_len(line: &[u8]) -> usize
-    ensures exact { position_or_len is_blank line.now ≡ result }
-    ensures fits { result ≤ length line.now }
+/// Which bytes end a piece of a text.
+pub(crate) trait Ends {
+    ghost ends: { ℕ → Bool };
+
+    fn ends(b: u8) -> bool
+        ensures { result ≡ ends b };
+}
+
+/// Blanks end words.
+struct Blank;
+
+impl Ends for Blank {
+    ghost ends = { is_blank };
+
+    fn ends(b: u8) -> bool {
+        is_blank(b)
+    }
+}
+
+/// How many bytes stand before the first that ends a piece.
+pub(crate) fn len_before<E: Ends>(bytes: &[u8]) -> usize
+    ensures exact { position_or_len E.ends bytes.now ≡ result }
+    ensures fits { result ≤ length bytes.now }
 {
-    for (i, b) in line.iter().enumerate() {
-        if is_blank(*b) {
+    for (i, b) in bytes.iter().enumerate() {
+        if E::ends(*b) {
             return i;
         }
     }
-    line.len()
+    bytes.len()
 }
 
 /// The first word of a line that begins with one, and the bytes after it.
 fn split_at_blank(line: &[u8]) -> (&[u8], &[u8])
     ensures { begins_blank line.now ≡ false → line.now ≢ [] → words_of line.now ≡ result.0.now ∷ words_of result.1.now }
 {
-    line.split_at(word_len(line))
+    line.split_at(len_before::<Blank>(line))
 }
 
 /// The first word of a line, and the bytes after it.

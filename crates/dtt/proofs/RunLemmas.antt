@@ -7,12 +7,14 @@ use Rattle.std.proofs.lemmas.List.{append-nil}
 use Rattle.std.proofs.lemmas.List.Folds.{list_all-append}
 use Rattle.std.specs.Io.KnownBytes.{Appends}
 use Rattle.dt_base.specs.Transfer.{AppendsFront}
-use Rattle.dt_machine.specs.Answers.{Run, Answers, script_lines, text_of_all, are_accepted}
-use Rattle.dt_machine.specs.Reply.{Reply, text_of, is_accepted, Gives, Responds}
+use Rattle.dt_machine.specs.Answers.{Run, Answers, text_of_all, are_accepted}
+use Rattle.dt_script.specs.Lines.{script_lines}
+use Rattle.dt_machine.specs.Reply.{text_of, is_accepted, Gives, Responds}
+use Rattle.dt_reply.specs.declared.reply.Reply.{Reply}
 use Rattle.dt_machine.specs.State.{State, first_state}
 use Rattle.dt_machine.specs.Step.{Step}
 use Rattle.dtt.specs.Progress.{Progress}
-use Rattle.dtt.specs.Result.{IsFront, Told, Holds}
+use Rattle.dtt.specs.Result.{IsFront, WhereTold, Gained}
 
 -- one line more
 run_more : (s t u : State) (lines : List (List ℕ)) (replies : List Reply) (line : List ℕ) (reply : Reply)
@@ -95,7 +97,7 @@ cut_in_reply input rest line after s t accepted said old mid new out p cut (repl
     )
 
 -- where nothing was written, that is a front of the replies
-pub nothing_written : (left held : Option (List ℕ)) → Told left held (λ input before. Holds held before (λ text. IsFront input text))
+pub nothing_written : (left held : Option (List ℕ)) → WhereTold left held (λ input before. Gained held before (λ text. IsFront input text))
 nothing_written None held = tt
 nothing_written (Some input) None = tt
 nothing_written (Some input) (Some before) = (

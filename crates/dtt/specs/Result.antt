@@ -1,17 +1,20 @@
 -- What the program answers.
 use Rattle.std.specs.Prelude.{◌≡◌, ℕ, ◌≤◌, Bool, true, false, List, [], ◌∷◌, ◌++◌, length, Option, Some, IfSome, MatchOption, codes}
-use Rattle.std.specs.Io.KnownBytes.{Appends}
 use Rattle.std.specs.Str.{bytes_eq}
 use Rattle.dt_base.specs.Counter.{counted}
-use Rattle.dt_machine.specs.Answers.{Run, Answers, script_lines, text_of_all}
-use Rattle.dt_machine.specs.Reply.{Reply}
+use Rattle.dt_machine.specs.Answers.{Run, Answers, text_of_all}
+use Rattle.dt_script.specs.Lines.{script_lines}
+use Rattle.dt_reply.specs.declared.reply.Reply.{Reply}
 use Rattle.dt_machine.specs.State.{State, first_state}
 use Rattle.dtt.specs.declared.status.Status.{Status}
 use Rattle.dtt.specs.declared.status.Status.TheVariants.{Done, Refused, Usage, ReadFault, WriteFault, NoMemory, TooLong}
 
 -- the words of `run`
+abbrev pub run_word : List ℕ
+run_word = codes "run"
+
 abbrev pub run_words : List (List ℕ)
-run_words = codes "run" ∷ []
+run_words = run_word ∷ []
 
 -- the call was answered
 abbrev pub IsAnswer : Status → Type 0
@@ -66,8 +69,8 @@ pub record IsFront (input text : List ℕ) : Type 0 where
   pub written : text_of_all replies ≡ text ++ unwritten
 
 -- a fact of the bytes of a source and of what a sink held, where both tell them
-abbrev pub Told : Option (List ℕ) → Option (List ℕ) → (List ℕ → List ℕ → Type 0) → Type 0
-Told left held P = IfSome left (λ input. IfSome held (λ before. P input before))
+abbrev pub WhereTold : Option (List ℕ) → Option (List ℕ) → (List ℕ → List ℕ → Type 0) → Type 0
+WhereTold left held P = IfSome left (λ input. IfSome held (λ before. P input before))
 
 -- more bytes than the limit were taken: the count rose by one more than it, or stands at its last value
 abbrev pub TookTooMany : ℕ → ℕ → Type 0
@@ -87,25 +90,12 @@ IsAnswerOrNoMemory WriteFault = ⊥
 IsAnswerOrNoMemory NoMemory = Unit {0}
 IsAnswerOrNoMemory TooLong = ⊥
 
--- what a run of an input wrote to a sink, by the status it ended with: all replies, or where it was cut short a front of them
-abbrev pub WroteText : Status → List ℕ → List ℕ → Type 0
-WroteText Done input text = Answers input text true
-WroteText Refused input text = Answers input text false
-WroteText Usage input text = ⊥
-WroteText ReadFault input text = ⊥
-WroteText WriteFault input text = IsFront input text
-WroteText NoMemory input text = IsFront input text
-WroteText TooLong input text = ⊥
-
-abbrev pub Wrote : List ℕ → Status → Option (List ℕ) → Option (List ℕ) → Type 0
-Wrote input status old new = (text : List ℕ) × Appends old new text × WroteText status input text
-
 -- the words are the one word `run`
 abbrev pub is_run : List (List ℕ) → Bool
 is_run [] = false
-is_run (word ∷ []) = bytes_eq word (codes "run")
+is_run (word ∷ []) = bytes_eq word run_word
 is_run (word ∷ other ∷ words) = false
 
 -- what the sink holds is what it held before and a text
-abbrev pub Holds : Option (List ℕ) → List ℕ → (List ℕ → Type 0) → Type 0
-Holds new before P = (text : List ℕ) × (new ≡ Some (before ++ text)) × P text
+abbrev pub Gained : Option (List ℕ) → List ℕ → (List ℕ → Type 0) → Type 0
+Gained new before P = (text : List ℕ) × (new ≡ Some (before ++ text)) × P text

@@ -2,12 +2,13 @@
 ghost use Rattle.std.specs.Prelude.{◌≡◌, ◌+◌, ◌≤◌, ◌↔◌, ◌++◌, ℕ, List, [], length, map, true, false, IfSome, Some, IsTrue, IsFalse, string_bytes};
 ghost use Rattle.std.specs.Io.KnownBytes.{Appends};
 ghost use Rattle.dt_base.specs.Counter.{Rose};
-ghost use Rattle.dtt.specs.Result.{IsAnswer, IsCutShort, IsAnswerOrNoMemory, IsResult, IsFront, Told, IsUnwritten, Holds, TookTooMany, EndsWithinLimit, Wrote, is_run};
+ghost use Rattle.dtt.specs.Result.{IsAnswer, IsCutShort, IsAnswerOrNoMemory, IsResult, IsFront, WhereTold, IsUnwritten, Gained, TookTooMany, EndsWithinLimit, is_run};
+ghost use Rattle.dtt.specs.Progress.{Wrote};
 
-use crate::lines::first_line;
 use crate::status::Status;
 use dt_base::{READ_MAX, ReadEnd, Sink, Source, read_all, write_all};
 use dt_machine::Machine;
+use dt_script::first_line;
 use std::alloc::Global;
 
 /// Runs the lines of an input, and writes the reply to each before the next one is taken.
@@ -58,8 +59,8 @@ pub fn dtt<S: Source, K: Sink>(
     sink: &mut K,
 ) -> Status
     // What is answered: the source was read to its end, and the sink holds a text that belongs to words, input and status.
-    ensures answers { IsAnswer result → Told (S.left source.old) (K.held sink.old)
-        (λ input before. Holds (K.held sink.new) before (λ text. IsResult (map string_bytes words.now) input text result)) }
+    ensures answers { IsAnswer result → WhereTold (S.left source.old) (K.held sink.old)
+        (λ input before. Gained (K.held sink.new) before (λ text. IsResult (map string_bytes words.now) input text result)) }
     ensures read_to_end { IsAnswer result → IfSome (S.left source.old) (λ _. S.left source.new ≡ Some []) }
 
     // When each other status comes.
@@ -72,8 +73,8 @@ pub fn dtt<S: Source, K: Sink>(
     // What was done then.
     ensures untouched { result ≡ Status.Usage → source.new ≡ source.old }
     ensures unwritten { IsUnwritten result → sink.new ≡ sink.old }
-    ensures front { IsCutShort result → Told (S.left source.old) (K.held sink.old)
-        (λ input before. Holds (K.held sink.new) before (λ text. IsFront input text)) }
+    ensures front { IsCutShort result → WhereTold (S.left source.old) (K.held sink.old)
+        (λ input before. Gained (K.held sink.new) before (λ text. IsFront input text)) }
 
     // Where nothing fails outside, nothing but memory keeps the answer back.
     ensures complete { IsTrue (is_run (map string_bytes words.now)) → ¬ Rose (S.faults source.old) (S.faults source.new)

@@ -2,7 +2,6 @@
 #![tactic(auto)]
 
 mod call;
-mod lines;
 #[cfg(test)]
 mod rows;
 mod status;

@@ -1,18 +1,27 @@
 use Rattle.std.proofs.Common.{refl, ap, ◌∙◌, ◌≡◌}
+use Rattle.std.proofs.lemmas.Bool.{true_from_ne_false}
 use Rattle.std.proofs.lemmas.Int.{to_z-of_z}
 use Rattle.std.specs.Int.{w32, w64}
 use Rattle.dt_map.specs.Packed.{packed}
-use Rattle.dt_reply.specs.Reply.{Packed, text_of}
+use Rattle.dt_reply.specs.declared.reply.Reply.TheVariants.{Packed}
 use Rattle.dt_script.specs.declared.command.Command.TheVariants.{Bytes}
 use Rattle.dt_machine.specs.Refusal.{elements_of}
-use Rattle.dt_machine.proofs.Operations.{bytes_allowed, bytes_withheld}
+use Rattle.dt_machine.proofs.Operations.{bytes_unknown, bytes_missing, bytes_allowed, bytes_withheld}
 use Rattle.dt_machine.proofs.Outcomes.{told_outcome}
 use Rattle.dt_machine.proofs.machine.Machine.bytes.Goals as goal
 
+pub returns-in_default : goal.returns-in_default
+returns-in_default c = bytes_unknown c.args.self.now c.args.rep c.args.count c.args.ty.now c.args.buffer.now c.args.origin c.in_default.ensures
+
+pub returns-in-Err : goal.returns-in-Err
+returns-in-Err c =
+    bytes_missing c.args.self.now c.args.rep c.args.count c.args.ty.now c.args.buffer.now c.args.origin c.in-Some.buffer.now c.in-Some.ensures
+    c.in-Err.stop c.in-Err.ensures
+
 pub returns-in-Some-refused_operation : goal.returns-in-Some-refused_operation
 returns-in-Some-refused_operation c =
-    bytes_withheld c.args.self.now c.args.rep c.args.count c.args.ty.now c.args.buffer.now c.args.origin c.in-Ok.kept c.in-Some.buffer.now
-    c.in-Ok.ensures c.in-Some.ensures c.in-Some-refused_operation.refusal
+    bytes_withheld c.args.self.now c.args.rep c.args.count c.args.ty.now c.args.buffer.now c.args.origin c.in-Some.buffer.now c.in-Some.ensures c.in-Ok.kept
+    c.in-Ok.ensures c.in-Some-refused_operation.refusal
     (simp (to_z-of_z w32 c.args.count c.ranges.count, to_z-of_z w64 c.args.origin c.ranges.origin) at c.in-Some-refused_operation.ensures)
 
 pub packed_bytes-requires : goal.packed_bytes-requires
@@ -20,7 +29,7 @@ packed_bytes-requires c =
     let origin = to_z-of_z w64 c.args.origin c.ranges.origin in
     let printed = simp (to_z-of_z w32 c.args.count c.ranges.count, origin) at c.in_default-refused_operation.ensures in
     let copies = simp (to_z-of_z w32 c.args.count c.ranges.count) at c.unsigned_abs-copies.ensures.value in
-    simp (copies, origin) printed.inside
+    simp (copies, origin) (true_from_ne_false _ printed.1.0)
 
 pub returns : goal.returns
 returns c =
@@ -31,7 +40,6 @@ returns c =
     let held = c.in-Some.buffer.now in
     let es = elements_of kept c.args.count c.args.origin in
     let bytes : c.in_ok-bytes.bytes.items ≡ packed c.args.rep es held = simp (copies, origin) at c.in_ok-bytes.ensures in
-    let line = c.in_ok-line.ensures ∙ ap (λ b. text_of (Packed b)) (c.deref.ensures.value ∙ bytes) in
-    told_outcome c.args.self.now (Bytes c.args.rep c.args.count c.args.ty.now c.args.buffer.now c.args.origin) (Packed (packed c.args.rep es held)) c.in_ok-line.line.items c.told.result
-    (bytes_allowed c.args.self.now c.args.rep c.args.count c.args.ty.now c.args.buffer.now c.args.origin kept held c.in-Ok.ensures c.in-Some.ensures printed)
-    (kept, held, c.in-Ok.ensures, c.in-Some.ensures, refl, refl) refl c.told.ensures line
+    told_outcome c.args.self.now (Bytes c.args.rep c.args.count c.args.ty.now c.args.buffer.now c.args.origin) (Packed c.from_vec.result) c.told.result
+    (bytes_allowed c.args.self.now c.args.rep c.args.count c.args.ty.now c.args.buffer.now c.args.origin held c.in-Some.ensures kept c.in-Ok.ensures printed)
+    (kept, held, c.in-Ok.ensures, c.in-Some.ensures, ap Packed (c.from_vec.ensures ∙ bytes), refl) refl c.told.ensures

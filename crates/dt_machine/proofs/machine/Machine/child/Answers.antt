@@ -5,10 +5,16 @@ use Rattle.dt_script.specs.declared.command.Command.TheVariants.{Child}
 use Rattle.dt_type.specs.Basic.{is_basic}
 use Rattle.dt_machine.specs.declared.outcome.Change.TheVariants.{AddType}
 use Rattle.dt_machine.specs.Refusal.{NoMoreTypes}
-use Rattle.dt_machine.proofs.Least.{contrary}
-use Rattle.dt_machine.proofs.NamedTypes.{child_lacks, child_allowed, child_can}
+use Rattle.dt_machine.proofs.Rows.{contrary}
+use Rattle.dt_machine.proofs.NamedTypes.{child_names, child_missing, child_lacks, child_allowed, child_can}
 use Rattle.dt_machine.proofs.Outcomes.{done_outcome}
 use Rattle.dt_machine.proofs.machine.Machine.child.Goals as goal
+
+pub returns-in-Some : goal.returns-in-Some
+returns-in-Some c = child_names c.args.self.now c.args.name.now c.args.ty.now c.args.k c.in-Some.refusal c.in-Some.ensures
+
+pub returns-in-Err : goal.returns-in-Err
+returns-in-Err c = child_missing c.args.self.now c.args.name.now c.args.ty.now c.args.k c.in_default.ensures c.in-Err.stop c.in-Err.ensures
 
 pub returns-in-Err-NoSuchChild : goal.returns-in-Err-NoSuchChild
 returns-in-Err-NoSuchChild c =

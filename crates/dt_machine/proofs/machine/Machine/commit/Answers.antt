@@ -1,9 +1,13 @@
 use Rattle.std.proofs.Common.{sym, ◌∙◌}
 use Rattle.dt_script.specs.declared.command.Command.TheVariants.{Commit}
+use Rattle.dt_names.specs.declared.stop.Stop.TheVariants.{Refused}
 use Rattle.dt_machine.specs.declared.outcome.Change.TheVariants as change
-use Rattle.dt_machine.proofs.NamedTypes.{here, commit_allowed, commit_basic, commit_plain}
+use Rattle.dt_machine.proofs.NamedTypes.{here, commit_missing, commit_allowed, commit_basic, commit_plain}
 use Rattle.dt_machine.proofs.Outcomes.{done_outcome}
 use Rattle.dt_machine.proofs.machine.Machine.commit.Goals as goal
+
+pub returns-in-Some : goal.returns-in-Some
+returns-in-Some c = commit_missing c.args.self.now c.args.ty.now (Refused c.in-Some.refusal) c.in-Some.ensures
 
 pub returns-then-is_reserved : goal.returns-then-is_reserved
 returns-then-is_reserved c =

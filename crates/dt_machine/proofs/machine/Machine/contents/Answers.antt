@@ -1,5 +1,5 @@
 use Rattle.std.proofs.Common.{refl, ap, ◌∙◌}
-use Rattle.dt_reply.specs.Reply.{Contained, text_of}
+use Rattle.dt_reply.specs.declared.reply.Reply.TheVariants.{Contained}
 use Rattle.dt_script.specs.declared.command.Command.TheVariants.{Contents}
 use Rattle.dt_form.specs.Contents.{contents_of}
 use Rattle.dt_type.specs.Datatype.{form_of}
@@ -18,6 +18,5 @@ pub returns : goal.returns
 returns c =
     let kept = c.in-Ok.kept in
     let listed = c.in-Ok-contents.ensures in
-    told_outcome c.args.self.now (Contents c.args.ty.now) (Contained (contents_of (form_of kept.ty))) c.in_ok-line.line.items c.told.result
-    (contents_allowed c.args.self.now c.args.ty.now kept c.in-Ok.ensures listed.0) (kept, c.in-Ok.ensures, refl, refl) refl c.told.ensures
-    (c.in_ok-line.ensures ∙ ap (λ m. text_of (Contained m)) listed.1)
+    told_outcome c.args.self.now (Contents c.args.ty.now) (Contained c.in-Ok-contents.contents) c.told.result
+    (contents_allowed c.args.self.now c.args.ty.now kept c.in-Ok.ensures listed.0) (kept, c.in-Ok.ensures, ap Contained listed.1, refl) refl c.told.ensures

@@ -1,5 +1,5 @@
 use Rattle.std.proofs.Common.{refl, ap, ◌∙◌}
-use Rattle.dt_reply.specs.Reply.{Described, text_of}
+use Rattle.dt_reply.specs.declared.reply.Reply.TheVariants.{Described}
 use Rattle.dt_script.specs.declared.command.Command.TheVariants.{Envelope}
 use Rattle.dt_form.specs.Contents.{envelope_of}
 use Rattle.dt_type.specs.Datatype.{form_of}
@@ -13,6 +13,5 @@ returns-in-Err c = envelope_missing c.args.self.now c.args.ty.now c.in-Err.stop 
 pub returns : goal.returns
 returns c =
     let kept = c.in-Ok.kept in
-    told_outcome c.args.self.now (Envelope c.args.ty.now) (Described (envelope_of (form_of kept.ty))) c.in_ok-line.line.items c.told.result
-    (envelope_allowed c.args.self.now c.args.ty.now kept c.in-Ok.ensures) (kept, c.in-Ok.ensures, refl, refl) refl c.told.ensures
-    (c.in_ok-line.ensures ∙ ap (λ e. text_of (Described e)) c.envelope.ensures)
+    told_outcome c.args.self.now (Envelope c.args.ty.now) (Described c.envelope.result) c.told.result
+    (envelope_allowed c.args.self.now c.args.ty.now kept c.in-Ok.ensures) (kept, c.in-Ok.ensures, ap Described c.envelope.ensures, refl) refl c.told.ensures

@@ -1,9 +1,13 @@
 use Rattle.std.proofs.Common.{refl, sym, ◌∙◌}
 use Rattle.dt_script.specs.declared.command.Command.TheVariants.{Free}
+use Rattle.dt_names.specs.declared.stop.Stop.TheVariants.{Refused}
 use Rattle.dt_machine.specs.declared.outcome.Change.TheVariants as change
-use Rattle.dt_machine.proofs.NamedTypes.{here, free_allowed, free_basic, free_can}
+use Rattle.dt_machine.proofs.NamedTypes.{here, free_missing, free_allowed, free_basic, free_can}
 use Rattle.dt_machine.proofs.Outcomes.{done_outcome}
 use Rattle.dt_machine.proofs.machine.Machine.free.Goals as goal
+
+pub returns-in-Some : goal.returns-in-Some
+returns-in-Some c = free_missing c.args.self.now c.args.ty.now (Refused c.in-Some.refusal) c.in-Some.ensures
 
 pub returns-then-is_basic : goal.returns-then-is_basic
 returns-then-is_basic c =

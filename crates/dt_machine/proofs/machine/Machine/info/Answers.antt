@@ -1,6 +1,6 @@
 use Rattle.std.proofs.Common.{refl, ap, ◌∙◌}
 use Rattle.dt_map.specs.Bounds.{bounds_of}
-use Rattle.dt_reply.specs.Reply.{Told, text_of}
+use Rattle.dt_reply.specs.declared.reply.Reply.TheVariants.{Told}
 use Rattle.dt_script.specs.declared.command.Command.TheVariants.{Info}
 use Rattle.dt_type.specs.Datatype.{typemap_of}
 use Rattle.dt_machine.proofs.Operations.{info_allowed, info_missing}
@@ -13,6 +13,6 @@ returns-in-Err c = info_missing c.args.self.now c.args.ty.now c.in-Err.stop c.in
 pub returns : goal.returns
 returns c =
     let kept = c.in-Ok.kept in
-    told_outcome c.args.self.now (Info c.args.ty.now) (Told (bounds_of (typemap_of kept.ty)) kept.committed) c.in_ok-line.line.items c.told.result
-    (info_allowed c.args.self.now c.args.ty.now kept c.in-Ok.ensures) (kept, c.in-Ok.ensures, refl, refl) refl c.told.ensures
-    (c.in_ok-line.ensures ∙ ap (λ b. text_of (Told b kept.committed)) c.bounds.ensures.value)
+    told_outcome c.args.self.now (Info c.args.ty.now) (Told c.bounds.result kept.committed) c.told.result
+    (info_allowed c.args.self.now c.args.ty.now kept c.in-Ok.ensures)
+    (kept, c.in-Ok.ensures, ap (λ b. Told b kept.committed) c.bounds.ensures.value, refl) refl c.told.ensures

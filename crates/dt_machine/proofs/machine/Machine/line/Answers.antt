@@ -1,5 +1,5 @@
 use Rattle.std.proofs.Common.{refl, sym, append-nil}
-use Rattle.dt_reply.specs.Reply.{Silent}
+use Rattle.dt_reply.specs.declared.reply.Reply.TheVariants.{Silent}
 use Rattle.dt_script.specs.Line.{Blank}
 use Rattle.dt_machine.proofs.Lines.{obeyed_line}
 use Rattle.dt_machine.proofs.machine.Machine.line.Goals as goal

@@ -1,5 +1,5 @@
 use Rattle.std.proofs.Common.{refl, ap, ◌∙◌}
-use Rattle.dt_reply.specs.Reply.{Listed, text_of}
+use Rattle.dt_reply.specs.declared.reply.Reply.TheVariants.{Listed}
 use Rattle.dt_script.specs.declared.command.Command.TheVariants.{Map}
 use Rattle.dt_type.specs.Datatype.{typemap_of}
 use Rattle.dt_machine.proofs.Operations.{map_allowed, map_missing, map_too_many}
@@ -17,6 +17,5 @@ pub returns : goal.returns
 returns c =
     let kept = c.in-Ok.kept in
     let listed = c.in-Ok-flatten.ensures in
-    told_outcome c.args.self.now (Map c.args.ty.now) (Listed (typemap_of kept.ty)) c.in_ok-line.line.items c.told.result
-    (map_allowed c.args.self.now c.args.ty.now kept c.in-Ok.ensures listed.1) (kept, c.in-Ok.ensures, refl, refl) refl c.told.ensures
-    (c.in_ok-line.ensures ∙ ap (λ m. text_of (Listed m)) listed.0)
+    told_outcome c.args.self.now (Map c.args.ty.now) (Listed c.in-Ok-flatten.map) c.told.result
+    (map_allowed c.args.self.now c.args.ty.now kept c.in-Ok.ensures listed.1) (kept, c.in-Ok.ensures, ap Listed listed.0, refl) refl c.told.ensures

@@ -1,7 +1,0 @@
-use Rattle.std.proofs.Common.{◌≡◌, pos}
-use Rattle.dt_machine.specs.State.{bytes_of}
-use Rattle.dt_script.specs.declared.command.Fill.TheVariants.{Count}
-use Rattle.dt_machine.proofs.buffer.Buffer.counting.Given as goal
-
-abbrev pub invariant-loop-i : goal.invariant-loop-i
-invariant-loop-i l = l.bytes.items ≡ bytes_of (Count (pos l.i))

@@ -1,7 +1,0 @@
-use Rattle.std.proofs.Common.{sym, ◌∙◌}
-use Rattle.dt_machine.proofs.TypeWords.{plain_unknown}
-use Rattle.dt_machine.proofs.machine.Machine.kept.Goals as goal
-
-pub returns-in-None : goal.returns-in-None
-returns-in-None c =
-    plain_unknown c.args.self.now c.args.word.now (sym c.is_reserved.ensures ∙ c.if-is_reserved.false) c.in-None.ensures

@@ -1,0 +1,4 @@
+pub mod Found
+pub mod Missing
+pub mod Names
+pub mod Standing
