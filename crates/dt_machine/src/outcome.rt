@@ -45,6 +45,8 @@ impl From<NoMemory> for Stop {
 }
 
 impl From<AllocError> for Stop {
+    ghost use Rattle.std.specs.Prelude.{◌≡◌};
+    ghost use Rattle.dt_machine.specs.declared.outcome.Stop.TheVariants.{NoMemory as WithoutMemory};
 
     ghost from_gives = { λ _ stop. stop ≡ WithoutMemory };
 
