@@ -20,7 +20,7 @@ pub struct StdSource<R> {
 }
 
 impl<R> Model for StdSource<R> {
-    ghost use Rattle.dt_base.specs.Adapters.{OverReader, OverWriter};
+    ghost use Rattle.dt_base.specs.Adapters.{OverReader};
 
     ghost Value = { OverReader R };
 
@@ -76,6 +76,7 @@ pub struct StdSink<W> {
 }
 
 impl<W> Model for StdSink<W> {
+    ghost use Rattle.dt_base.specs.Adapters.{OverWriter};
 
     ghost Value = { OverWriter W };
 

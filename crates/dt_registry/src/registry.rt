@@ -33,7 +33,7 @@ pub struct Registry {
 }
 
 impl Model for Registry {
-    ghost use Rattle.dt_registry.specs.Registry.{Registry as Seen, HoldsEarlier};
+    ghost use Rattle.dt_registry.specs.Registry.{Registry as Seen};
 
     ghost Value = { Seen };
 
@@ -43,6 +43,8 @@ impl Model for Registry {
     ghost coded = { Prim.hlevel (codes, live.the_row.coded) };
 
     ghost view = { λ r. record { made = r.made; slots = r.slots.slots } };
+
+    ghost use Rattle.dt_registry.specs.Registry.{HoldsEarlier};
 
     ghost invariant = { λ r. HoldsEarlier r.made r.slots.slots };
 }
