@@ -8,21 +8,13 @@ ghost use Rattle.dt_machine.specs.Refusal.{new_type_row};
 ghost use Rattle.dt_machine.specs.Row.{IsFirst, IsClear};
 ghost use Rattle.dt_machine.specs.State.{type_of, is_unknown};
 ghost use Rattle.dt_script.specs.declared.command.Command.TheVariants.{Child, Commit, Free};
-ghost use Rattle.dt_type.specs.Basic.{is_basic};
 
 use crate::machine::Machine;
 use crate::outcome::{Change, Outcome, done};
 use dt_names::{Kept, Stop, is_left_out};
 use dt_reply::Refusal;
 use dt_script::Name;
-use dt_type::{ChildFault, Datatype, FormOf};
-
-/// Whether a datatype is basic.
-fn is_basic(ty: &Datatype) -> bool
-    ensures { result ≡ is_basic ty.now }
-{
-    matches!(ty.form(), FormOf::Named(_))
-}
+use dt_type::ChildFault;
 
 impl Machine {
     /// Why a type word stands for nothing.
@@ -102,7 +94,7 @@ impl Machine {
             return Err(Stop::Refused(Refusal::TooManyNames));
         }
         let name = name.copied()?;
-        let committed = is_basic(&child);
+        let committed = child.is_basic();
         let kept = Kept {
             ty: child,
             committed,

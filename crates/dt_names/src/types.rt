@@ -13,7 +13,7 @@ use dt_kinds::{Kind, KindFault, NoMemory};
 use dt_registry::{Handle, Registry};
 use dt_reply::Refusal;
 use dt_script::Name;
-use dt_type::{Datatype, FormOf};
+use dt_type::Datatype;
 use std::alloc::Global;
 use std::collections::BTreeMap;
 use std::collections::btree_map::Entry;
@@ -164,7 +164,7 @@ impl Types {
             return Kind::of_name(word.as_bytes()).is_ok();
         }
         match self.get(word) {
-            Some(found) => matches!(found.ty.form(), FormOf::Named(_)),
+            Some(found) => found.ty.is_basic(),
             None => false,
         }
     }
