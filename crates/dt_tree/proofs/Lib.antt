@@ -1,3 +1,5 @@
+pub mod Measures
 pub mod Nodes
 pub mod Prices
+pub mod Spans
 pub mod Subtrees

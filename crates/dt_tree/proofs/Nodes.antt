@@ -1,5 +1,5 @@
 -- the tree that a node stands for, one node at a time
-use Rattle.std.proofs.Common.{◌≡◌, ℕ, ◌+◌, ◌≤◌, ◌<◌, ℤ, List, [], ◌∷◌, map, length, drop, get_or, refl, sym, ap, ◌∙◌}
+use Rattle.std.proofs.Common.{◌≡◌, ℕ, ◌+◌, ◌≤◌, ◌<◌, ℤ, List, [], ◌∷◌, map, length, drop, get_or, refl, sym, ap, ◌∙◌, arith}
 use Rattle.std.proofs.lemmas.List.{at_drop_more, at_drop_all}
 use Rattle.dt_kinds.specs.declared.kind.Kind.{Kind}
 use Rattle.dt_tree.specs.declared.node.Node.{Node, roll-Node, out-Node}
@@ -8,6 +8,7 @@ use Rattle.dt_tree.specs.declared.node.Node.TheOpen.{Node-F}
 use Rattle.dt_tree.specs.declared.node.Node.TheFolds.{fold-Node, fold-roll-Node, fold_out-Node}
 use Rattle.dt_tree.specs.declared.node.PartOf.{PartOf}
 use Rattle.dt_tree.specs.Tree.{Tree, leaf, vector, index, group, Parts, no_parts, part}
+use Rattle.dt_tree.specs.Rule.{part_count}
 use Rattle.dt_tree.specs.Node.{tree_of, trees_of, tree_step, parts_of}
 
 pub of_leaf : (kind : Kind) → tree_of (Leaf kind) ≡ leaf kind
@@ -37,4 +38,8 @@ rest_more parts i p lt is = at_drop_more trees_of parts i p lt ∙ ap (λ (q : P
 pub rest_none : (parts : List (PartOf Node)) (i : ℕ) → length parts ≤ i → trees_of (drop i parts) ≡ no_parts
 rest_none parts i end = at_drop_all trees_of parts i end
 
-pub ruleset nodes = (of_leaf, of_vector, of_index, of_group, rest_more, rest_none)
+pub count_of : (parts : List (PartOf Node)) → part_count (trees_of parts) ≡ length parts
+count_of [] = refl
+count_of (p ∷ parts) = let h = count_of parts in omega arith
+
+pub ruleset nodes = (of_leaf, of_vector, of_index, of_group, rest_more, rest_none, count_of)

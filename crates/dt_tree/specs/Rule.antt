@@ -57,6 +57,18 @@ pub record IsShort (es : List Entry) : Type 0 where
   pub from : nat_abs (true_lb es) ≤ 1208925819614629174706176
   pub to : nat_abs (true_ub es) ≤ 1208925819614629174706176
 
+-- whether a tree and each subtree is short, node by node (law `short_subtrees`)
+abbrev mutual
+  pub AreShort : Tree → Type 0
+  AreShort (leaf kind) = Unit {0}
+  AreShort (vector count block stride child) = IsShort (flat (vector count block stride child)) × AreShort child
+  AreShort (index block places child) = IsShort (flat (index block places child)) × AreShort child
+  AreShort (group parts) = IsShort (flat (group parts)) × PartsShort parts
+
+  pub PartsShort : Parts → Type 0
+  PartsShort no_parts = Unit {0}
+  PartsShort (part block disp child rest) = AreShort child × PartsShort rest
+
 -- the rule of the trees that a program takes
 pub record FollowsRule (tree : Tree) : Type 0 where
   pub numbers : IsTrue (numbers_fit tree)

@@ -3,7 +3,10 @@
 
 mod cost;
 pub mod laws;
+mod measure;
 pub mod node;
+mod numbers;
+mod span;
 pub mod weights;
 
 pub use node::{GroupPart, Node};

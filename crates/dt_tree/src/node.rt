@@ -30,7 +30,9 @@ pub enum Node {
         child: Boxed<Node>,
     },
     /// Parts, each with a block length and a displacement (`MPI_Type_create_struct`).
-    Group { parts: Items<PartOf<Node>> },
+    Group {
+        parts: Items<PartOf<Node>>,
+    },
 }
 
 pub type GroupPart = PartOf<Node>;

@@ -1,0 +1,76 @@
+-- the measures of entries, and of copies of them
+use Rattle.std.proofs.Common.{◌≡◌, ℕ, zero, suc, ◌+◌, ◌-◌, ◌*◌, ◌%◌, ◌≤◌, ◌<◌, ℤ, pos, negsuc, nat_abs, ◌+ℤ◌, ◌-ℤ◌, ◌*ℤ◌, ◌≤ℤ◌, Option, Some, None, List, [], ◌∷◌, ◌++◌, length, refl, sym, ap, ◌∙◌, subst, arith}
+use Rattle.std.proofs.lemmas.Int.{ints, clamps}
+use Rattle.std.proofs.Math.IntN.{pos-*ℤ-pos}
+use Rattle.std.proofs.Math.Nat.{mul-le-mul}
+use Rattle.std.specs.Int.{int_min, int_max}
+use Rattle.dt_map.specs.declared.typemap.Entry.{Entry}
+use Rattle.dt_map.specs.declared.typemap.Marks.{Marks}
+use Rattle.dt_map.specs.Numbers.{padding}
+use Rattle.dt_map.specs.Bounds.{alignment, true_lb, true_ub, natural_end}
+use Rattle.dt_map.specs.Placing.{joined_marks}
+use Rattle.dt_map.specs.Runs.{placed_at, even, run, natural_extent}
+use Rattle.dt_map.specs.Span.{reach_of, span_of, stretched}
+use Rattle.dt_map.specs.Summary.{lb_or_zero, ub_or_zero}
+use Rattle.dt_map.proofs.Extremes.{alignment-pos, alignment-le, true_bounds_ordered}
+use Rattle.dt_map.proofs.Seats.{length-even}
+use Rattle.dt_map.proofs.Summaries.{true_lb_is, true_ub_is}
+use Rattle.dt_tree.specs.Measure.{IsNear, IsClose, IsMeasure}
+use Rattle.dt_tree.specs.Rule.{IsShort}
+use Rattle.dt_tree.proofs.Spans.{span_of-placed_at, alignment-placed_at, even_reach}
+
+pub measure_lb : (es : List Entry) (span : Marks) (align : ℕ) → IsMeasure es span align → true_lb es ≡ span.lb
+measure_lb es span align m = true_lb_is es ∙ ap lb_or_zero m.0
+
+pub measure_ub : (es : List Entry) (span : Marks) (align : ℕ) → IsMeasure es span align → true_ub es ≡ span.ub
+measure_ub es span align m = true_ub_is es ∙ ap ub_or_zero m.0
+
+pub measure_ordered : (es : List Entry) (span : Marks) (align : ℕ) → IsMeasure es span align → span.lb ≤ℤ span.ub
+measure_ordered es span align m =
+    let low = measure_lb es span align m in
+    let high = measure_ub es span align m in
+    let ordered = true_bounds_ordered es in
+    omega (arith, ints)
+
+pub measure_aligned : (es : List Entry) (span : Marks) (align : ℕ) → IsMeasure es span align → (0 < align) × (align ≤ 8)
+measure_aligned es span align m =
+    let same = m.1 in
+    let some = alignment-pos es in
+    let few = alignment-le es in
+    (omega arith, omega arith)
+
+pub measure_extent : (es : List Entry) (span : Marks) (align far : ℕ) → IsMeasure es span align → span.lb ≤ℤ span.ub → far ≡ nat_abs (span.ub -ℤ span.lb) →
+    pos (far + padding far align) ≡ natural_extent es
+measure_extent es span align far m ordered is =
+    let low = measure_lb es span align m in
+    let high = measure_ub es span align m in
+    by span.lb span.ub far (padding far align) ordered is
+    ∙ sym
+    (ap (λ z. natural_end z (true_ub es) (alignment es) -ℤ z) low
+    ∙ (ap (λ z. natural_end span.lb z (alignment es) -ℤ span.lb) high
+    ∙ (ap (λ n. natural_end span.lb span.ub n -ℤ span.lb) m.1 ∙ ap (λ n. (span.ub +ℤ pos (padding n align)) -ℤ span.lb) (sym is))))
+  where
+    by : (l u : ℤ) (far p : ℕ) → l ≤ℤ u → far ≡ nat_abs (u -ℤ l) → pos (far + p) ≡ (u +ℤ pos p) -ℤ l
+    by l u far p ordered is = omega (arith, ints)
+
+-- copies at places of a reach
+pub measure_placed : (places : List ℤ) (es : List Entry) (reach span result : Marks) (align : ℕ) → 0 < length places → Some reach ≡ reach_of places →
+    Some result ≡ stretched (Some reach) (Some span) → IsMeasure es span align → IsMeasure (placed_at places es) result align
+measure_placed places es reach span result align some at is m = (
+  span_of-placed_at places es ∙ (ap (λ r. stretched r (span_of es)) (sym at) ∙ (ap (stretched (Some reach)) m.0 ∙ sym is)),
+  alignment-placed_at places es some ∙ m.1,
+)
+
+-- a block of copies
+pub measure_run : (es : List Entry) (block last extent : ℕ) (span result : Marks) (align : ℕ) → 0 < block → pos extent ≡ natural_extent es → last ≡ (block - 1) * extent →
+    Some result ≡ stretched (Some (record { lb = pos 0; ub = pos last })) (Some span) → IsMeasure es span align → IsMeasure (run block es) result align
+measure_run es block last extent span result align some step is placed m =
+    measure_placed (even block (natural_extent es)) es _ span result align (omega (arith, some, length-even block (natural_extent es)))
+    (even_reach block (natural_extent es) (pos last) (pos 0) (pos last) some (product ∙ ap (λ z. pos (block - 1) *ℤ z) step) (omega (arith, ints, clamps)) (omega (arith, ints, clamps)))
+    placed m
+  where
+    product : pos last ≡ pos (block - 1) *ℤ pos extent
+    product = ap pos is ∙ sym (pos-*ℤ-pos (block - 1) extent)
+
+pub product_small : (n e : ℕ) → n ≤ 1023 → e ≤ 4835703278458516698824704 → n * e ≤ 1023 * 4835703278458516698824704
+product_small n e few small = mul-le-mul few small

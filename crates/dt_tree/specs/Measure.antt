@@ -1,0 +1,17 @@
+use Rattle.std.specs.Prelude.{◌≡◌, ℕ, ◌≤◌, Some, ℤ, nat_abs, List}
+use Rattle.dt_map.specs.declared.typemap.Entry.{Entry}
+use Rattle.dt_map.specs.declared.typemap.Marks.{Marks}
+use Rattle.dt_map.specs.Bounds.{alignment}
+use Rattle.dt_map.specs.Span.{span_of}
+
+-- the ends of a span are at most 2^100 in absolute value, so that two of them can be added
+abbrev pub IsNear : Marks → Type 0
+IsNear span = (nat_abs span.lb ≤ 1267650600228229401496703205376) × (nat_abs span.ub ≤ 1267650600228229401496703205376)
+
+-- at most 2^80, as the rule of trees wants it of true bounds
+abbrev pub IsClose : Marks → Type 0
+IsClose span = (nat_abs span.lb ≤ 1208925819614629174706176) × (nat_abs span.ub ≤ 1208925819614629174706176)
+
+-- a span and an alignment are those of entries
+abbrev pub IsMeasure : List Entry → Marks → ℕ → Type 0
+IsMeasure es span align = (span_of es ≡ Some span) × (alignment es ≡ align)
