@@ -1,5 +1,5 @@
 -- the measures of entries, and of copies of them
-use Rattle.std.proofs.Common.{◌≡◌, ℕ, zero, suc, ◌+◌, ◌-◌, ◌*◌, ◌%◌, ◌≤◌, ◌<◌, ℤ, pos, negsuc, nat_abs, ◌+ℤ◌, ◌-ℤ◌, ◌*ℤ◌, ◌≤ℤ◌, Option, Some, None, List, [], ◌∷◌, ◌++◌, length, refl, sym, ap, ◌∙◌, subst, arith}
+use Rattle.std.proofs.Common.{◌≡◌, ℕ, zero, suc, ◌+◌, ◌-◌, ◌*◌, ◌%◌, ◌≤◌, ◌<◌, ℤ, pos, negsuc, nat_abs, ◌+ℤ◌, ◌-ℤ◌, ◌*ℤ◌, ◌≤ℤ◌, Option, Some, None, List, [], ◌∷◌, ◌++◌, length, refl, sym, ap, ◌∙◌, subst, arith, append-nil}
 use Rattle.std.proofs.lemmas.Int.{ints, clamps}
 use Rattle.std.proofs.Math.IntN.{pos-*ℤ-pos}
 use Rattle.std.proofs.Math.Nat.{mul-le-mul}
@@ -15,7 +15,10 @@ use Rattle.dt_map.specs.Summary.{lb_or_zero, ub_or_zero}
 use Rattle.dt_map.proofs.Extremes.{alignment-pos, alignment-le, true_bounds_ordered}
 use Rattle.dt_map.proofs.Seats.{length-even}
 use Rattle.dt_map.proofs.Summaries.{true_lb_is, true_ub_is}
-use Rattle.dt_tree.specs.Measure.{IsNear, IsClose, IsMeasure}
+use Rattle.std.specs.Option.{MatchOption}
+use Rattle.dt_map.specs.Typemap.{shift}
+use Rattle.dt_tree.specs.declared.measure.Measure.{Measure}
+use Rattle.dt_tree.specs.Measure.{IsClose, IsMeasure, IsShortMeasure}
 use Rattle.dt_tree.specs.Rule.{IsShort}
 use Rattle.dt_tree.proofs.Spans.{span_of-placed_at, alignment-placed_at, even_reach}
 
@@ -74,3 +77,35 @@ measure_run es block last extent span result align some step is placed m =
 
 pub product_small : (n e : ℕ) → n ≤ 1023 → e ≤ 4835703278458516698824704 → n * e ≤ 1023 * 4835703278458516698824704
 product_small n e few small = mul-le-mul few small
+
+-- short entries, by their measure
+pub short_from : (es : List Entry) (span : Marks) (align : ℕ) → IsMeasure es span align → IsClose span → IsShort es
+short_from es span align m close =
+    let low = measure_lb es span align m in
+    let high = measure_ub es span align m in
+    record { from = omega (arith, ints, close.0); to = omega (arith, ints, close.1) }
+
+pub close_from : (es : List Entry) (span : Marks) (align : ℕ) → IsMeasure es span align → IsShort es → IsClose span
+close_from es span align m short =
+    let low = measure_lb es span align m in
+    let high = measure_ub es span align m in
+    (omega (arith, ints, short.from), omega (arith, ints, short.to))
+
+pub short_measure : (es : List Entry) (m : Measure) (result : Option Measure) → MatchOption result (IsClose m.span → ⊥) (λ r. (r ≡ m) × IsClose m.span) → IsMeasure es m.span m.align →
+    IsShortMeasure es result
+short_measure es m None far is = λ short. far (close_from es m.span m.align is short)
+short_measure es m (Some r) h is =
+    subst (λ (r : Measure). IsShort es × IsMeasure es r.span r.align × IsClose r.span) (sym h.0) (short_from es m.span m.align is h.1, is, h.1)
+
+-- copies of a block at places
+pub measure_blocks : (places : List ℤ) (block : ℕ) (es : List Entry) (reach span result : Marks) (align align' : ℕ) → 0 < length places → Some reach ≡ reach_of places →
+    Some result ≡ stretched (Some reach) (Some span) → align' ≡ align → IsMeasure (run block es) span align → IsMeasure (placed_at places (run block es)) result align'
+measure_blocks places block es reach span result align align' some at is same m =
+    subst (IsMeasure (placed_at places (run block es)) result) (sym same) (measure_placed places (run block es) reach span result align some at is m)
+
+-- and at one displacement
+pub measure_shifted : (x : ℤ) (es : List Entry) (reach span result : Marks) (align align' : ℕ) → Some reach ≡ reach_of (x ∷ []) →
+    Some result ≡ stretched (Some reach) (Some span) → align' ≡ align → IsMeasure es span align → IsMeasure (shift x es) result align'
+measure_shifted x es reach span result align align' at is same m =
+    let one = measure_placed (x ∷ []) es reach span result align (omega arith) at is m in
+    subst (IsMeasure (shift x es) result) (sym same) (subst (λ l. IsMeasure l result align) (append-nil (shift x es)) one)

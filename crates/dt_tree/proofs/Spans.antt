@@ -1,8 +1,10 @@
 -- spans of places, and of copies at them
-use Rattle.std.proofs.Common.{◌≡◌, ℕ, zero, suc, ◌+◌, ◌-◌, ◌*◌, ◌≤◌, ◌<◌, max, ℤ, pos, negsuc, nat_abs, ◌+ℤ◌, ◌-ℤ◌, ◌*ℤ◌, Option, Some, None, List, [], ◌∷◌, ◌++◌, map, length, drop, get_or, refl, sym, ap, ◌∙◌, arith}
+use Rattle.std.proofs.Common.{◌≡◌, ℕ, zero, suc, ◌+◌, ◌-◌, ◌*◌, ◌≤◌, ◌<◌, max, Bool, true, false, ◌&&◌, inl, inr, ℤ, pos, negsuc, nat_abs, ◌+ℤ◌, ◌-ℤ◌, ◌*ℤ◌, Option, Some, None, List, [], ◌∷◌, ◌++◌, map, length, drop, get_or, refl, sym, ap, ◌∙◌, arith}
 use Rattle.std.proofs.lemmas.Int.{ints, clamps, to_z-of_z}
 use Rattle.std.proofs.lemmas.List.{at_drop_more, at_drop_all}
+use Rattle.std.proofs.lemmas.Bool.Decides.{leb_tells}
 use Rattle.std.specs.Int.{int_min, int_max}
+use Rattle.std.specs.List.{list_all}
 use lib.Signed.{mag}
 use mir.Syntax.{w128}
 use mir.Val.{to_z, of_z}
@@ -14,6 +16,8 @@ use Rattle.dt_map.specs.Bounds.{alignment}
 use Rattle.dt_map.specs.Placing.{joined_marks}
 use Rattle.dt_map.specs.Runs.{placed_at, even, run, natural_extent}
 use Rattle.dt_map.specs.Span.{point, entry_span, reach_of, span_of, stretched}
+use Rattle.dt_map.specs.Summary.{lb_or_zero, ub_or_zero}
+use Rattle.dt_tree.specs.Rule.{is_step}
 use Rattle.dt_map.proofs.Extremes.{alignment-append, alignment-pos}
 use Rattle.dt_map.proofs.Offsets.{reach_of_even}
 use Rattle.dt_map.proofs.Summaries.{both, joined_marks_assoc, joined_marks_none, spans-append, span_of-shift, alignment-shift, stretched_more}
@@ -75,3 +79,38 @@ alignment-placed_at (x ∷ (y ∷ ys)) es some =
     let b = alignment-shift x es in
     let c = alignment-placed_at (y ∷ ys) es (omega arith) in
     omega arith
+
+-- the reach of places that are near
+near_joined : (bound : ℕ) (x : ℤ) (rest : Option Marks) (r : Marks) → nat_abs x ≤ bound → ((s : Marks) → rest ≡ Some s → (nat_abs s.lb ≤ bound) × (nat_abs s.ub ≤ bound)) →
+    Some r ≡ joined_marks (point x) rest → (nat_abs r.lb ≤ bound) × (nat_abs r.ub ≤ bound)
+near_joined bound x None r near each is =
+    let low : r.lb ≡ x = ap lb_or_zero is in
+    let high : r.ub ≡ x = ap ub_or_zero is in
+    (omega (arith, ints), omega (arith, ints))
+near_joined bound x (Some s) r near each is =
+    let low : r.lb ≡ int_min x s.lb = ap lb_or_zero is in
+    let high : r.ub ≡ int_max x s.ub = ap ub_or_zero is in
+    let h = each s refl in
+    (omega (arith, ints, clamps), omega (arith, ints, clamps))
+
+both_true : (a b : Bool) → (a && b) ≡ true → (a ≡ true) × (b ≡ true)
+both_true true true e = (refl, refl)
+both_true true false e = cc
+both_true false b e = cc
+
+pub step_near : (x : ℤ) → is_step x ≡ true → nat_abs x ≤ 2305843009213693952
+step_near x e = elim (leb_tells (nat_abs x) 2305843009213693952) [ inl h ↦ h.1 | inr h ↦ absurd (cc (e, h.0)) ]
+
+pub near_reach : (places : List ℤ) (r : Marks) → list_all is_step places ≡ true → Some r ≡ reach_of places → (nat_abs r.lb ≤ 2305843009213693952) × (nat_abs r.ub ≤ 2305843009213693952)
+near_reach [] r all is = absurd (cc is)
+near_reach (x ∷ xs) r all is =
+    let parts = both_true (is_step x) (list_all is_step xs) all in
+    near_joined 2305843009213693952 x (reach_of xs) r (step_near x parts.0) (λ s same. near_reach xs s parts.1 (sym same)) is
+
+pub some_reach : (places : List ℤ) → 0 < length places → reach_of places ≡ None → ⊥
+some_reach [] some e = absurd (omega arith)
+some_reach (x ∷ xs) some e = joined_some (point x) (reach_of xs) e
+  where
+    joined_some : (a b : Option Marks) → joined_marks (point x) b ≡ None → ⊥
+    joined_some a None e = cc
+    joined_some a (Some b) e = cc

@@ -1,8 +1,10 @@
-use Rattle.std.specs.Prelude.{◌≡◌, ℕ, ◌≤◌, Some, ℤ, nat_abs, List}
+use Rattle.std.specs.Prelude.{◌≡◌, ℕ, ◌≤◌, Option, Some, ℤ, nat_abs, List, MatchOption}
 use Rattle.dt_map.specs.declared.typemap.Entry.{Entry}
 use Rattle.dt_map.specs.declared.typemap.Marks.{Marks}
 use Rattle.dt_map.specs.Bounds.{alignment}
 use Rattle.dt_map.specs.Span.{span_of}
+use Rattle.dt_tree.specs.declared.measure.Measure.{Measure}
+use Rattle.dt_tree.specs.Rule.{IsShort}
 
 -- the ends of a span are at most 2^100 in absolute value, so that two of them can be added
 abbrev pub IsNear : Marks → Type 0
@@ -15,3 +17,7 @@ IsClose span = (nat_abs span.lb ≤ 1208925819614629174706176) × (nat_abs span.
 -- a span and an alignment are those of entries
 abbrev pub IsMeasure : List Entry → Marks → ℕ → Type 0
 IsMeasure es span align = (span_of es ≡ Some span) × (alignment es ≡ align)
+
+-- the measure of short entries, or nothing of others
+abbrev pub IsShortMeasure : List Entry → Option Measure → Type 0
+IsShortMeasure es result = MatchOption result (¬ IsShort es) (λ m. IsShort es × IsMeasure es m.span m.align × IsClose m.span)

@@ -1,16 +1,15 @@
 //! The true bounds and the alignment of what nodes place, by arithmetic.
-ghost use Rattle.std.specs.Prelude.{◌≡◌, ◌≤◌, ◌<◌, Some, ◌≤ℤ◌, pos, List, IsTrue, MatchOption};
-ghost use Rattle.std.specs.Bool.{Decides};
+ghost use Rattle.std.specs.Prelude.{◌≡◌, ◌≤◌, ◌<◌, Some, ◌≤ℤ◌, pos, nat_abs, List, length, IsTrue, MatchOption};
+ghost use Rattle.std.specs.List.{list_all};
 ghost use Rattle.dt_map.specs.declared.typemap.Entry.{Entry};
-ghost use Rattle.dt_map.specs.Runs.{natural_extent, run};
+ghost use Rattle.dt_map.specs.Runs.{natural_extent, placed_at, even, run};
 ghost use Rattle.dt_map.specs.Span.{stretched};
-ghost use Rattle.dt_tree.specs.Measure.{IsNear, IsClose, IsMeasure};
-ghost use Rattle.dt_tree.specs.Node.{tree_of};
-ghost use Rattle.dt_tree.specs.Rule.{numbers_fit, AreShort};
+ghost use Rattle.dt_map.specs.Typemap.{shift};
+ghost use Rattle.dt_tree.specs.Measure.{IsNear, IsClose, IsMeasure, IsShortMeasure};
+ghost use Rattle.dt_tree.specs.Rule.{is_step};
 ghost use Rattle.dt_tree.specs.Tree.{flat, leaf};
 
-use crate::node::Node;
-use crate::span::{Span, around, evenly, joined, point, sums, width};
+use crate::span::{Span, around, evenly, point, sums, width};
 use dt_kinds::Kind;
 
 /// The true bounds of entries and their alignment.
@@ -91,4 +90,48 @@ impl Measure {
             None
         }
     }
+}
+
+/// The measure of blocks of copies with one stride.
+fn in_vector(one: Measure, count: u32, block: u32, stride: i64) -> Option<Measure>
+    requires close { IsClose one.span }
+    requires ordered { one.span.lb ≤ℤ one.span.ub }
+    requires aligned { 0 < one.align }
+    requires few { one.align ≤ 8 }
+    requires some { 0 < block }
+    requires short { block ≤ 1024 }
+    requires turns { 0 < count }
+    requires stride { nat_abs stride ≤ 2305843009213693952 }
+    ensures { (es : List Entry) → IsMeasure es one.span one.align → IsShortMeasure (placed_at (even count stride) (run block es)) result }
+{
+    one.in_block(block).at(evenly(count, stride)).short()
+}
+
+/// The measure of blocks of copies at places.
+fn in_index(one: Measure, block: u32, places: &[i64]) -> Option<Measure>
+    requires close { IsClose one.span }
+    requires ordered { one.span.lb ≤ℤ one.span.ub }
+    requires aligned { 0 < one.align }
+    requires few { one.align ≤ 8 }
+    requires some { 0 < block }
+    requires short { block ≤ 1024 }
+    requires placed { 0 < length places.now }
+    requires places { IsTrue (list_all is_step places.now) }
+    ensures { (es : List Entry) → IsMeasure es one.span one.align → IsShortMeasure (placed_at places.now (run block es)) result }
+{
+    let reach = around(places).unwrap();
+    one.in_block(block).at(reach).short()
+}
+
+/// The measure of a block of copies at a displacement.
+fn in_part(one: Measure, block: u32, disp: i64) -> Measure
+    requires close { IsClose one.span }
+    requires ordered { one.span.lb ≤ℤ one.span.ub }
+    requires aligned { 0 < one.align }
+    requires few { one.align ≤ 8 }
+    requires some { 0 < block }
+    requires short { block ≤ 1024 }
+    ensures { (es : List Entry) → IsMeasure es one.span one.align → IsMeasure (shift disp (run block es)) result.span result.align }
+{
+    one.in_block(block).at(point(i128::from(disp)))
 }

@@ -27,7 +27,8 @@ impl Model for Span {
 /// So many steps.
 pub(crate) fn steps(times: u32, step: i64) -> i128
     requires { nat_abs step ≤ 2305843009213693952 }
-    ensures { result ≡ pos times *ℤ step }
+    ensures value { result ≡ pos times *ℤ step }
+    ensures near { nat_abs result ≤ 9903520314283042199192993792 }
 {
     i128::from(times) * i128::from(step)
 }
@@ -75,7 +76,8 @@ pub(crate) fn width(span: Span) -> u128
 pub(crate) fn evenly(count: u32, step: i64) -> Span
     requires some { 0 < count }
     requires step { nat_abs step ≤ 2305843009213693952 }
-    ensures { Some result ≡ reach_of (even count step) }
+    ensures value { Some result ≡ reach_of (even count step) }
+    ensures near { IsNear result }
 {
     let last = steps(count - 1, step);
     Span {
