@@ -1,3 +1,4 @@
+pub mod Limits
 pub mod Measures
 pub mod Nodes
 pub mod Prices

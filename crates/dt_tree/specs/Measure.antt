@@ -18,6 +18,10 @@ IsClose span = (nat_abs span.lb ≤ 1208925819614629174706176) × (nat_abs span.
 abbrev pub IsMeasure : List Entry → Marks → ℕ → Type 0
 IsMeasure es span align = (span_of es ≡ Some span) × (alignment es ≡ align)
 
+-- the measure of some entries, within the rule of trees
+abbrev pub IsWhole : Measure → Type 0
+IsWhole m = (es : List Entry) × IsMeasure es m.span m.align × IsClose m.span
+
 -- the measure of short entries, or nothing of others
 abbrev pub IsShortMeasure : List Entry → Option Measure → Type 0
 IsShortMeasure es result = MatchOption result (¬ IsShort es) (λ m. IsShort es × IsMeasure es m.span m.align × IsClose m.span)

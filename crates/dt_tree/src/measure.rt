@@ -5,7 +5,7 @@ ghost use Rattle.dt_map.specs.declared.typemap.Entry.{Entry};
 ghost use Rattle.dt_map.specs.Runs.{natural_extent, placed_at, even, run};
 ghost use Rattle.dt_map.specs.Span.{stretched};
 ghost use Rattle.dt_map.specs.Typemap.{shift};
-ghost use Rattle.dt_tree.specs.Measure.{IsNear, IsClose, IsMeasure, IsShortMeasure};
+ghost use Rattle.dt_tree.specs.Measure.{IsNear, IsClose, IsMeasure, IsShortMeasure, IsWhole};
 ghost use Rattle.dt_tree.specs.Rule.{is_step};
 ghost use Rattle.dt_tree.specs.Tree.{flat, leaf};
 
@@ -20,7 +20,7 @@ pub(crate) struct Measure {
 }
 
 /// Of one entry of a kind, at 0.
-fn of_kind(kind: Kind) -> Measure
+pub(crate) fn of_kind(kind: Kind) -> Measure
     ensures { IsMeasure (flat (leaf kind)) result.span result.align }
 {
     let size = kind.size();
@@ -63,10 +63,7 @@ impl Measure {
 
     /// The measure of a block of so many copies.
     fn in_block(self, block: u32) -> Measure
-        requires close { IsClose self.span }
-        requires ordered { self.span.lb ≤ℤ self.span.ub }
-        requires aligned { 0 < self.align }
-        requires few { self.align ≤ 8 }
+        requires whole { IsWhole self }
         requires some { 0 < block }
         requires short { block ≤ 1024 }
         ensures value { (es : List Entry) → IsMeasure es self.span self.align → IsMeasure (run block es) result.span result.align }
@@ -80,7 +77,7 @@ impl Measure {
     }
 
     /// This measure, where its bounds are within the rule of trees.
-    fn short(self) -> Option<Measure>
+    pub(crate) fn short(self) -> Option<Measure>
         ensures { MatchOption result (¬ IsClose self.span) (λ m. (m ≡ self) × IsClose self.span) }
     {
         let limit = 1_208_925_819_614_629_174_706_176;
@@ -93,11 +90,8 @@ impl Measure {
 }
 
 /// The measure of blocks of copies with one stride.
-fn in_vector(one: Measure, count: u32, block: u32, stride: i64) -> Option<Measure>
-    requires close { IsClose one.span }
-    requires ordered { one.span.lb ≤ℤ one.span.ub }
-    requires aligned { 0 < one.align }
-    requires few { one.align ≤ 8 }
+pub(crate) fn in_vector(one: Measure, count: u32, block: u32, stride: i64) -> Option<Measure>
+    requires one { IsWhole one }
     requires some { 0 < block }
     requires short { block ≤ 1024 }
     requires turns { 0 < count }
@@ -108,11 +102,8 @@ fn in_vector(one: Measure, count: u32, block: u32, stride: i64) -> Option<Measur
 }
 
 /// The measure of blocks of copies at places.
-fn in_index(one: Measure, block: u32, places: &[i64]) -> Option<Measure>
-    requires close { IsClose one.span }
-    requires ordered { one.span.lb ≤ℤ one.span.ub }
-    requires aligned { 0 < one.align }
-    requires few { one.align ≤ 8 }
+pub(crate) fn in_index(one: Measure, block: u32, places: &[i64]) -> Option<Measure>
+    requires one { IsWhole one }
     requires some { 0 < block }
     requires short { block ≤ 1024 }
     requires placed { 0 < length places.now }
@@ -124,11 +115,8 @@ fn in_index(one: Measure, block: u32, places: &[i64]) -> Option<Measure>
 }
 
 /// The measure of a block of copies at a displacement.
-fn in_part(one: Measure, block: u32, disp: i64) -> Measure
-    requires close { IsClose one.span }
-    requires ordered { one.span.lb ≤ℤ one.span.ub }
-    requires aligned { 0 < one.align }
-    requires few { one.align ≤ 8 }
+pub(crate) fn in_part(one: Measure, block: u32, disp: i64) -> Measure
+    requires one { IsWhole one }
     requires some { 0 < block }
     requires short { block ≤ 1024 }
     ensures { (es : List Entry) → IsMeasure es one.span one.align → IsMeasure (shift disp (run block es)) result.span result.align }
