@@ -1,5 +1,8 @@
 -- what the limits of numbers say
 use Rattle.std.proofs.Common.{◌≡◌, ℕ, ◌≤◌, ◌<◌, Bool, true, false, ◌&&◌, nat_le, inl, inr, ℤ, nat_abs, List, length, refl, sym, ap, ◌∙◌, arith}
+use mir.Syntax.{w64}
+use mir.Val.{to_z, of_z}
+use Rattle.std.proofs.lemmas.Int.{ints}
 use Rattle.std.proofs.lemmas.Bool.Decides.{leb_tells}
 use Rattle.std.specs.Bool.{IsTrue}
 use Rattle.std.specs.List.{list_all}
@@ -24,6 +27,10 @@ count_fits n e = let h = both_true (nat_le 1 n) (nat_le n 1024) e in (is_le 1 n 
 
 pub step_fits : (x : ℤ) → is_step x ≡ true → nat_abs x ≤ 2305843009213693952
 step_fits x e = is_le (nat_abs x) 2305843009213693952 e
+
+-- a stride, a place or a displacement, read back from its bits
+pub step_back : (x : ℤ) → nat_abs x ≤ 2305843009213693952 → to_z w64 (of_z w64 x) ≡ x
+step_back x near = omega (arith, ints)
 
 -- the numbers of each kind of node
 pub record VectorFits (count block : ℕ) (stride : ℤ) (child : Tree) : Type 0 where

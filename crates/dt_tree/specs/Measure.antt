@@ -4,7 +4,8 @@ use Rattle.dt_map.specs.declared.typemap.Marks.{Marks}
 use Rattle.dt_map.specs.Bounds.{alignment}
 use Rattle.dt_map.specs.Span.{span_of}
 use Rattle.dt_tree.specs.declared.measure.Measure.{Measure}
-use Rattle.dt_tree.specs.Rule.{IsShort}
+use Rattle.dt_tree.specs.Rule.{IsShort, AreShort}
+use Rattle.dt_tree.specs.Tree.{Tree, flat}
 
 -- the ends of a span are at most 2^100 in absolute value, so that two of them can be added
 abbrev pub IsNear : Marks → Type 0
@@ -25,3 +26,7 @@ IsWhole m = (es : List Entry) × IsMeasure es m.span m.align × IsClose m.span
 -- the measure of short entries, or nothing of others
 abbrev pub IsShortMeasure : List Entry → Option Measure → Type 0
 IsShortMeasure es result = MatchOption result (¬ IsShort es) (λ m. IsShort es × IsMeasure es m.span m.align × IsClose m.span)
+
+-- the measure of a tree, where it and each subtree are short
+abbrev pub IsMeasured : Tree → Option Measure → Type 0
+IsMeasured tree result = MatchOption result (¬ AreShort tree) (λ m. AreShort tree × IsMeasure (flat tree) m.span m.align × IsClose m.span)

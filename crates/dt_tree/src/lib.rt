@@ -1,6 +1,7 @@
 //! Datatype trees: what they place, what they cost, and which of them are least.
 #![tactic(auto)]
 
+mod bounds;
 mod cost;
 pub mod laws;
 mod measure;

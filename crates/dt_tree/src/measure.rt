@@ -21,7 +21,8 @@ pub(crate) struct Measure {
 
 /// Of one entry of a kind, at 0.
 pub(crate) fn of_kind(kind: Kind) -> Measure
-    ensures { IsMeasure (flat (leaf kind)) result.span result.align }
+    ensures value { IsMeasure (flat (leaf kind)) result.span result.align }
+    ensures close { IsClose result.span }
 {
     let size = kind.size();
     Measure {
