@@ -1,7 +1,9 @@
+pub mod Amounts
 pub mod Limits
 pub mod Measures
 pub mod NodeMeasures
 pub mod Nodes
 pub mod Prices
+pub mod Rules
 pub mod Spans
 pub mod Subtrees

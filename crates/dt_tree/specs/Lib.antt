@@ -3,6 +3,7 @@ pub mod Laws
 pub mod Least
 pub mod Measure
 pub mod Node
+pub mod Number
 pub mod Rule
 pub mod Tree
 pub mod Weights

@@ -1,8 +1,9 @@
 //! Whether all true bounds within a tree are within the rule, and what they are.
 ghost use Rattle.std.specs.Prelude.{IsTrue};
+ghost use Rattle.std.specs.Bool.{Decides};
 ghost use Rattle.dt_tree.specs.Measure.{IsMeasured};
 ghost use Rattle.dt_tree.specs.Node.{tree_of};
-ghost use Rattle.dt_tree.specs.Rule.{numbers_fit};
+ghost use Rattle.dt_tree.specs.Rule.{numbers_fit, AreShort};
 
 use crate::measure::{Measure, in_index, in_part, in_vector, of_kind};
 use crate::node::Node;
@@ -49,4 +50,12 @@ pub(crate) fn measured(node: &Node) -> Option<Measure>
             whole.short()
         }
     }
+}
+
+/// Whether the true bounds of a node and of all below it are within the rule of trees.
+pub(crate) fn are_short(node: &Node) -> bool
+    requires { IsTrue (numbers_fit (tree_of node.now)) }
+    ensures { Decides result (AreShort (tree_of node.now)) }
+{
+    measured(node).is_some()
 }

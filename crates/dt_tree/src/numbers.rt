@@ -112,3 +112,10 @@ pub(crate) fn words_left(node: &Node, left: u64) -> Option<u64>
         }
     }
 }
+
+/// Whether a node and those below it have at most 131,072 nodes, places and parts.
+pub(crate) fn is_small(node: &Node) -> bool
+    ensures { Decides result (spec.words_of (tree_of node.now) ≤ 131072) }
+{
+    words_left(node, 131_072).is_some()
+}

@@ -41,7 +41,7 @@ pub parts-init : goal.parts-init
 parts-init t c =
     let list = c.as_slice-part-items.ensures in
     let same : tree_of c.args.node.now ≡ group (trees_of c.as_slice-part-items.result.now) =
-        ap tree_of c.in-Group.is ∙ (of_group c.in-Group.parts ∙ ap (λ ps. group (trees_of ps)) (sym list)) in
+    ap tree_of c.in-Group.is ∙ (of_group c.in-Group.parts ∙ ap (λ ps. group (trees_of ps)) (sym list)) in
     let fits = of_group_fits c.args.node.now c.in-Group.parts c.requires c.in-Group.is in
     record {
       span = ap (λ t. span_of (flat t)) (sym same);
@@ -66,7 +66,7 @@ parts-preserved t c =
     let back = step_back p.disp fits.disp_fits in
     let es = run p.block (flat (tree_of p.node)) in
     let here =
-        subst (λ x. IsMeasure (shift x es) c.in_part-here.result.span c.in_part-here.result.align) back (c.in_part-here.ensures (flat (tree_of p.node)) one.1) in
+    subst (λ x. IsMeasure (shift x es) c.in_part-here.result.span c.in_part-here.result.align) back (c.in_part-here.ensures (flat (tree_of p.node)) one.1) in
     record {
       span = part_span c.parts.span (Some c.joined.result) c.in_part-here.result.span rest p.block p.disp (tree_of p.node) after _ more here.0 c.joined.ensures c.parts.invariant.span;
       align =
@@ -89,10 +89,9 @@ returns-after-parts t c =
     let none = rest_none list c.parts.part-index c.parts-test.false in
     let whole : Measure = record { span = c.unwrap.result; align = c.parts.align } in
     let span =
-        sym c.parts.invariant.span
-        ∙ (ap (λ ps. joined_marks c.parts.span (span_of (flat_parts ps))) none ∙ (joined_marks_none c.parts.span ∙ c.unwrap.ensures)) in
+    sym c.parts.invariant.span
+    ∙ (ap (λ ps. joined_marks c.parts.span (span_of (flat_parts ps))) none ∙ (joined_marks_none c.parts.span ∙ c.unwrap.ensures)) in
     let align = sym c.parts.invariant.align ∙ (ap (λ ps. max c.parts.align (alignment (flat_parts ps))) none ∙ at_least_one c.parts.align c.parts.invariant.aligned) in
     group_measured c.args.node.now list c.short.result (c.in-Group.is ∙ ap Group (sym c.as_slice-part-items.ensures))
     (c.parts.invariant.done (subst PartsShort (sym none) tt))
     (short_measure (flat (tree_of c.args.node.now)) whole c.short.result c.short.ensures (span, align))
-
