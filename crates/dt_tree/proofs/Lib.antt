@@ -1,4 +1,5 @@
 pub mod Amounts
+pub mod Entries
 pub mod Limits
 pub mod Measures
 pub mod NodeMeasures
@@ -7,3 +8,4 @@ pub mod Prices
 pub mod Rules
 pub mod Spans
 pub mod Subtrees
+pub mod Walks

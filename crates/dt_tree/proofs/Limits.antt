@@ -1,5 +1,5 @@
 -- what the limits of numbers say
-use Rattle.std.proofs.Common.{◌≡◌, ℕ, ◌≤◌, ◌<◌, Bool, true, false, ◌&&◌, nat_le, inl, inr, ℤ, nat_abs, List, length, refl, sym, ap, ◌∙◌, arith}
+use Rattle.std.proofs.Common.{◌≡◌, ℕ, zero, suc, pos, [], ◌∷◌, get_or, ◌≤◌, ◌<◌, Bool, true, false, ◌&&◌, nat_le, inl, inr, ℤ, nat_abs, List, length, refl, sym, ap, ◌∙◌, arith}
 use mir.Syntax.{w64}
 use mir.Val.{to_z, of_z}
 use Rattle.std.proofs.lemmas.Int.{ints}
@@ -31,6 +31,11 @@ step_fits x e = is_le (nat_abs x) 2305843009213693952 e
 -- a stride, a place or a displacement, read back from its bits
 pub step_back : (x : ℤ) → nat_abs x ≤ 2305843009213693952 → to_z w64 (of_z w64 x) ≡ x
 step_back x near = omega (arith, ints)
+
+pub step_at : (places : List ℤ) (k : ℕ) → list_all is_step places ≡ true → k < length places → nat_abs (get_or places k (pos 0)) ≤ 2305843009213693952
+step_at [] k all lt = absurd (omega arith)
+step_at (x ∷ xs) zero all lt = step_fits x (both_true (is_step x) (list_all is_step xs) all).0
+step_at (x ∷ xs) (suc k) all lt = step_at xs k (both_true (is_step x) (list_all is_step xs) all).1 (omega arith)
 
 -- the numbers of each kind of node
 pub record VectorFits (count block : ℕ) (stride : ℤ) (child : Tree) : Type 0 where

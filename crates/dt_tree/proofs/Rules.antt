@@ -33,7 +33,7 @@ rule_is_tree tree rule = fit_is_tree tree rule.numbers
 leaf_short : (kind : Kind) → IsShort (flat (leaf kind))
 leaf_short kind = let few = native_size-le kind in record { from = omega (arith, ints); to = omega (arith, ints) }
 
-own_short : (tree : Tree) → AreShort tree → IsShort (flat tree)
+pub own_short : (tree : Tree) → AreShort tree → IsShort (flat tree)
 own_short (leaf kind) h = leaf_short kind
 own_short (vector count block stride child) h = h.0
 own_short (index block places child) h = h.0

@@ -4,6 +4,7 @@ pub mod Least
 pub mod Measure
 pub mod Node
 pub mod Number
+pub mod Place
 pub mod Rule
 pub mod Tree
 pub mod Weights

@@ -4,14 +4,17 @@
 mod bounds;
 mod cost;
 mod count;
+mod find;
 pub mod laws;
 mod measure;
 pub mod node;
 mod numbers;
+pub mod place;
 mod span;
 pub mod tree;
 pub mod weights;
 
 pub use node::{GroupPart, Node};
+pub use place::Place;
 pub use tree::{ShapeFault, Tree};
 pub use weights::Weights;
