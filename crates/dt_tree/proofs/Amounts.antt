@@ -1,9 +1,8 @@
 -- numbers of elements
-use Rattle.std.proofs.Common.{◌≡◌, ℕ, zero, suc, ◌+◌, ◌*◌, ◌≤◌, ◌<◌, min, inl, inr, ℤ, List, length, refl, sym, ap, ◌∙◌, arith, length-append}
+use Rattle.std.proofs.Common.{◌≡◌, ℕ, zero, suc, ◌+◌, ◌*◌, ◌≤◌, min, inl, inr, ℤ, List, length, ap, ◌∙◌, arith, length-append}
 use Rattle.std.proofs.lemmas.Bool.{cases_lt}
 use Rattle.std.proofs.Math.Nat.{mul-le-mul_left}
-use Rattle.dt_map.specs.declared.typemap.Entry.{Entry}
-use Rattle.dt_map.specs.Runs.{placed_at, even, run}
+use Rattle.dt_map.specs.Runs.{even, run}
 use Rattle.dt_map.specs.Typemap.{shift}
 use Rattle.dt_map.proofs.Seats.{length-even, length-run}
 use Rattle.dt_map.proofs.Summaries.{length-shift}
@@ -11,7 +10,7 @@ use Rattle.dt_tree.specs.declared.node.Node.{Node}
 use Rattle.dt_tree.specs.declared.node.Node.TheVariants.{Vector, Index}
 use Rattle.dt_tree.specs.Node.{tree_of}
 use Rattle.dt_tree.specs.Number.{capped}
-use Rattle.dt_tree.specs.Tree.{Tree, leaf, vector, index, group, Parts, no_parts, part, flat, flat_parts}
+use Rattle.dt_tree.specs.Tree.{Tree, vector, index, Parts, part, flat, flat_parts}
 use Rattle.dt_tree.proofs.Nodes.{of_vector, of_index}
 use Rattle.dt_tree.proofs.Subtrees.{length-blocks}
 

@@ -1,12 +1,12 @@
 -- entries of copies, one by one
-use Rattle.std.proofs.Common.{◌≡◌, ℕ, zero, suc, ◌+◌, ◌-◌, ◌*◌, ◌/◌, ◌%◌, ◌≤◌, ◌<◌, ℤ, pos, negsuc, nat_abs, ◌+ℤ◌, ◌*ℤ◌, ◌≤ℤ◌, Option, Some, None, List, [], ◌∷◌, ◌++◌, map, length, get_or, refl, sym, ap, ◌∙◌, subst, arith}
+use Rattle.std.proofs.Common.{◌≡◌, ℕ, zero, suc, ◌+◌, ◌-◌, ◌*◌, ◌/◌, ◌%◌, ◌≤◌, ◌<◌, ℤ, pos, nat_abs, ◌+ℤ◌, ◌*ℤ◌, ◌≤ℤ◌, Option, Some, None, List, [], ◌∷◌, ◌++◌, map, take, length, get_or, slice_get, option_map, refl, sym, ap, ◌∙◌, subst, arith}
 use Rattle.std.proofs.lemmas.Int.{ints, clamps}
-use Rattle.std.proofs.lemmas.List.{get_or-map, get_or_append_left, get_or-append_right}
+use Rattle.std.proofs.lemmas.List.{get_or-map, get_or_append_left, get_or-append_right, map-append, take_more}
 use Rattle.std.proofs.Math.IntN.{pos-*ℤ-pos}
 use Rattle.std.proofs.Math.Nat.{mod-add-div, mod-lt, div-lt_iff_lt-mul}
 use Rattle.dt_map.specs.declared.typemap.Entry.{Entry}
 use Rattle.dt_map.specs.declared.typemap.Marks.{Marks}
-use Rattle.dt_map.specs.Bounds.{true_lb, true_ub, end_of}
+use Rattle.dt_map.specs.Bounds.{end_of}
 use Rattle.dt_map.specs.Placing.{joined_marks}
 use Rattle.dt_map.specs.Runs.{placed_at, even, run, natural_extent}
 use Rattle.dt_map.specs.Span.{entry_span, span_of}
@@ -16,8 +16,7 @@ use Rattle.std.specs.Prelude.{◌↔◌}
 use Rattle.dt_kinds.specs.declared.kind.Kind.{Kind}
 use Rattle.dt_kinds.specs.declared.kind.Kind.TheVariants.{Byte}
 use Rattle.dt_map.specs.Typemap.{shift, shift_entry}
-use Rattle.dt_map.proofs.Extremes.{true_bounds_ordered}
-use Rattle.dt_map.proofs.Seats.{length-even, get_or-even, length-placed_at}
+use Rattle.dt_map.proofs.Seats.{length-even, get_or-even}
 use Rattle.dt_map.proofs.Summaries.{length-shift, true_lb_is, true_ub_is}
 use Rattle.dt_tree.specs.declared.place.Place.{Place}
 use Rattle.dt_tree.specs.Place.{place_of, IsPlaceAt}
@@ -56,7 +55,7 @@ within_copies k n (suc each) lt = let below : (k / suc each < n) ↔ (k < n * su
 same_place : (k l : Kind) (x y : ℤ) → k ≡ l → x ≡ y → (let p : Place = record { kind = k; disp = x } in p) ≡ record { kind = l; disp = y }
 same_place k l x y same_kind same_disp = cc
 
-place_shifted : (x : ℤ) (e : Entry) (inner result : Place) → inner ≡ place_of e → result.kind ≡ inner.kind → result.disp ≡ inner.disp +ℤ x → result ≡ place_of (shift_entry x e)
+pub place_shifted : (x : ℤ) (e : Entry) (inner result : Place) → inner ≡ place_of e → result.kind ≡ inner.kind → result.disp ≡ inner.disp +ℤ x → result ≡ place_of (shift_entry x e)
 place_shifted x e inner result is kind disp =
     same_place result.kind e.kind result.disp (e.disp +ℤ x) (kind ∙ ap (λ (p : Place). p.kind) is) (disp ∙ ap (λ (p : Place). p.disp +ℤ x) is)
 
@@ -144,3 +143,25 @@ pub short_place : (es : List Entry) (k : ℕ) (place : Place) → IsShort es →
 short_place es k place short lt at =
     let d : Entry = record { kind = Byte; disp = pos 0 } in
     subst (λ (p : Place). nat_abs p.disp ≤ 1208925819614629174706176) (sym (at d)) (short_entry es k d short lt)
+
+-- what a list has from a base on, one element more
+pub listed_more : (xs : List Entry) (k : ℕ) (base : ℤ) (so_far next : List Place) (found moved : Place) → k < length xs → so_far ≡ map place_of (shift base (take k xs)) →
+    IsPlaceAt xs k found → moved.kind ≡ found.kind → moved.disp ≡ found.disp +ℤ base → next ≡ so_far ++ moved ∷ [] → next ≡ map place_of (shift base (take (k + 1) xs))
+listed_more xs k base so_far next found moved lt before at kind disp is =
+    let d : Entry = record { kind = Byte; disp = pos 0 } in
+    let e = get_or xs k d in
+    is
+    ∙ (ap (λ s. s ++ moved ∷ []) before
+    ∙ (ap (λ p. map place_of (shift base (take k xs)) ++ p ∷ []) (place_shifted base e found moved (at d) kind disp)
+    ∙ (sym (map-append place_of (shift base (take k xs)) (shift_entry base e ∷ []))
+    ∙ ap (map place_of) (sym (map-append (shift_entry base) (take k xs) (e ∷ [])) ∙ ap (shift base) (sym (take_more xs k d lt))))))
+
+pub slice_get_at : (xs : List Entry) (k : ℕ) (d : Entry) → k < length xs → slice_get xs k ≡ Some (get_or xs k d)
+slice_get_at [] k d lt = absurd (omega arith)
+slice_get_at (x ∷ xs) zero d lt = refl
+slice_get_at (x ∷ xs) (suc k) d lt = slice_get_at xs k d (omega arith)
+
+pub found_at : (xs : List Entry) (k : ℕ) (found : Place) → k < length xs → IsPlaceAt xs k found → Some found ≡ option_map place_of (slice_get xs k)
+found_at xs k found lt at =
+    let d : Entry = record { kind = Byte; disp = pos 0 } in
+    ap Some (at d) ∙ ap (option_map place_of) (sym (slice_get_at xs k d lt))

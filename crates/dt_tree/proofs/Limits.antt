@@ -4,14 +4,13 @@ use mir.Syntax.{w64}
 use mir.Val.{to_z, of_z}
 use Rattle.std.proofs.lemmas.Int.{ints}
 use Rattle.std.proofs.lemmas.Bool.Decides.{leb_tells}
-use Rattle.std.specs.Bool.{IsTrue}
 use Rattle.std.specs.List.{list_all}
 use Rattle.dt_tree.specs.declared.node.Node.{Node}
 use Rattle.dt_tree.specs.declared.node.Node.TheVariants.{Vector, Index, Group}
 use Rattle.dt_tree.specs.declared.node.PartOf.{PartOf}
 use Rattle.dt_tree.specs.Node.{tree_of, trees_of}
 use Rattle.dt_tree.specs.Rule.{is_count, is_step, numbers_fit, parts_fit, part_count}
-use Rattle.dt_tree.specs.Tree.{Tree, leaf, vector, index, group, Parts, no_parts, part}
+use Rattle.dt_tree.specs.Tree.{Tree, vector, index, group, Parts, part}
 use Rattle.dt_tree.proofs.Nodes.{of_vector, of_index, of_group, count_of}
 
 both_true : (a b : Bool) → (a && b) ≡ true → (a ≡ true) × (b ≡ true)

@@ -1,8 +1,6 @@
 -- the measures of nodes, one node at a time
-use Rattle.std.proofs.Common.{◌≡◌, ℕ, ◌+◌, ◌≤◌, ◌<◌, max, ℤ, Option, Some, None, List, ◌++◌, sym, ap, ◌∙◌, subst, arith}
-use Rattle.std.specs.Option.{MatchOption}
+use Rattle.std.proofs.Common.{◌≡◌, ℕ, max, ℤ, Option, Some, None, List, sym, ap, ◌∙◌, subst, arith}
 use Rattle.dt_kinds.specs.declared.kind.Kind.{Kind}
-use Rattle.dt_map.specs.declared.typemap.Entry.{Entry}
 use Rattle.dt_map.specs.declared.typemap.Marks.{Marks}
 use Rattle.dt_map.specs.Bounds.{alignment}
 use Rattle.dt_map.specs.Placing.{joined_marks}
@@ -18,7 +16,7 @@ use Rattle.dt_tree.specs.declared.node.PartOf.{PartOf}
 use Rattle.dt_tree.specs.Measure.{IsClose, IsMeasure, IsShortMeasure, IsMeasured}
 use Rattle.dt_tree.specs.Node.{tree_of, trees_of}
 use Rattle.dt_tree.specs.Rule.{IsShort, AreShort, PartsShort}
-use Rattle.dt_tree.specs.Tree.{Tree, leaf, vector, index, group, Parts, no_parts, part, flat, flat_parts}
+use Rattle.dt_tree.specs.Tree.{Tree, leaf, vector, index, group, Parts, part, flat, flat_parts}
 use Rattle.dt_tree.proofs.Nodes.{of_leaf, of_vector, of_index, of_group}
 
 -- a measure of the one node whose children are short

@@ -2,12 +2,12 @@
 use Rattle.std.proofs.Common.{◌≡◌, ℕ, ◌+◌, ◌≤◌, ◌<◌, ℤ, List, [], ◌∷◌, map, length, drop, get_or, refl, sym, ap, ◌∙◌, arith}
 use Rattle.std.proofs.lemmas.List.{at_drop_more, at_drop_all}
 use Rattle.dt_kinds.specs.declared.kind.Kind.{Kind}
-use Rattle.dt_tree.specs.declared.node.Node.{Node, roll-Node, out-Node}
+use Rattle.dt_tree.specs.declared.node.Node.{Node}
 use Rattle.dt_tree.specs.declared.node.Node.TheVariants.{Leaf, Vector, Index, Group, rolls-Leaf, rolls-Vector, rolls-Index, rolls-Group}
 use Rattle.dt_tree.specs.declared.node.Node.TheOpen.{Node-F}
-use Rattle.dt_tree.specs.declared.node.Node.TheFolds.{fold-Node, fold-roll-Node, fold_out-Node}
+use Rattle.dt_tree.specs.declared.node.Node.TheFolds.{fold-roll-Node}
 use Rattle.dt_tree.specs.declared.node.PartOf.{PartOf}
-use Rattle.dt_tree.specs.Tree.{Tree, leaf, vector, index, group, Parts, no_parts, part}
+use Rattle.dt_tree.specs.Tree.{Tree, leaf, vector, index, group, no_parts, part}
 use Rattle.dt_tree.specs.Rule.{part_count}
 use Rattle.dt_tree.specs.Node.{tree_of, trees_of, tree_step, parts_of}
 

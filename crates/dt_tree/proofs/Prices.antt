@@ -1,5 +1,5 @@
 -- what trees cost fits 64 bits
-use Rattle.std.proofs.Common.{◌≡◌, ℕ, ◌+◌, ◌*◌, ◌≤◌, ◌<◌, length, arith}
+use Rattle.std.proofs.Common.{ℕ, ◌*◌, ◌≤◌, length, arith}
 use Rattle.std.proofs.Math.Nat.{mul-le-mul_right}
 use Rattle.dt_tree.specs.Weights.{Weights, AreLight}
 use Rattle.dt_tree.specs.Tree.{Tree, leaf, vector, index, group, Parts, no_parts, part}

@@ -1,11 +1,10 @@
 -- the rule of programs' trees
-use Rattle.std.proofs.Common.{◌≡◌, ◌⊎◌, inl, inr, ℕ, ◌≤◌, ◌<◌, Bool, true, ℤ, sym, refl, subst, arith, lit≤}
+use Rattle.std.proofs.Common.{◌≡◌, ◌⊎◌, inl, inr, ℕ, ◌<◌, true, sym, refl, subst, arith}
 use Rattle.std.proofs.lemmas.Int.{ints}
 use Rattle.dt_kinds.specs.declared.kind.Kind.{Kind}
-use Rattle.dt_kinds.specs.Kind.{native_size}
 use Rattle.dt_kinds.proofs.Table.{native_size-le}
 use Rattle.dt_tree.specs.Laws.{ShortSubtrees, RuleIsTree}
-use Rattle.dt_tree.specs.Rule.{numbers_fit, parts_fit, part_count, IsShort, AreShort, PartsShort, FollowsRule}
+use Rattle.dt_tree.specs.Rule.{numbers_fit, parts_fit, part_count, IsShort, AreShort, PartsShort}
 use Rattle.dt_tree.specs.Tree.{Tree, leaf, vector, index, group, Parts, no_parts, part, flat, has_part, IsTree, AreTrees, IsBlockIn, IsBlockAmong, IsWithin}
 use Rattle.dt_tree.proofs.Limits.{vector_fits, index_fits, part_fits, group_fits}
 

@@ -1,5 +1,5 @@
 -- spans of places, and of copies at them
-use Rattle.std.proofs.Common.{◌≡◌, ℕ, zero, suc, ◌+◌, ◌-◌, ◌*◌, ◌≤◌, ◌<◌, max, Bool, true, false, ◌&&◌, inl, inr, ℤ, pos, negsuc, nat_abs, ◌+ℤ◌, ◌-ℤ◌, ◌*ℤ◌, Option, Some, None, List, [], ◌∷◌, ◌++◌, map, length, drop, get_or, refl, sym, ap, ◌∙◌, arith}
+use Rattle.std.proofs.Common.{◌≡◌, ℕ, zero, suc, ◌+◌, ◌-◌, ◌≤◌, ◌<◌, Bool, true, false, ◌&&◌, inl, inr, ℤ, pos, nat_abs, ◌+ℤ◌, ◌*ℤ◌, Option, Some, None, List, [], ◌∷◌, map, length, drop, get_or, refl, sym, ap, ◌∙◌, arith}
 use Rattle.std.proofs.lemmas.Int.{ints, clamps, to_z-of_z}
 use Rattle.std.proofs.lemmas.List.{at_drop_more, at_drop_all}
 use Rattle.std.proofs.lemmas.Bool.Decides.{leb_tells}
@@ -14,7 +14,7 @@ use Rattle.dt_map.specs.Numbers.{below}
 use Rattle.dt_map.specs.Typemap.{shift, shift_marks}
 use Rattle.dt_map.specs.Bounds.{alignment}
 use Rattle.dt_map.specs.Placing.{joined_marks}
-use Rattle.dt_map.specs.Runs.{placed_at, even, run, natural_extent}
+use Rattle.dt_map.specs.Runs.{placed_at, even}
 use Rattle.dt_map.specs.Span.{point, entry_span, reach_of, span_of, stretched}
 use Rattle.dt_map.specs.Summary.{lb_or_zero, ub_or_zero}
 use Rattle.dt_tree.specs.Rule.{is_step}

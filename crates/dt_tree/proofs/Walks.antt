@@ -1,5 +1,5 @@
 -- the walk down to one element
-use Rattle.std.proofs.Common.{◌≡◌, ℕ, suc, ◌+◌, ◌-◌, ◌*◌, ◌/◌, ◌%◌, ◌≤◌, ◌<◌, true, ℤ, pos, ◌+ℤ◌, ◌*ℤ◌, List, [], ◌∷◌, ◌++◌, length, get_or, refl, sym, ap, ◌∙◌, subst, arith}
+use Rattle.std.proofs.Common.{◌≡◌, ℕ, ◌-◌, ◌*◌, ◌/◌, ◌%◌, ◌≤◌, ◌<◌, true, ℤ, pos, ◌+ℤ◌, ◌*ℤ◌, List, length, get_or, ap, ◌∙◌, subst, arith}
 use Rattle.std.proofs.lemmas.List.{get_or-append_right}
 use Rattle.dt_map.specs.declared.typemap.Entry.{Entry}
 use Rattle.dt_map.specs.Runs.{placed_at, even, run}
@@ -7,14 +7,14 @@ use Rattle.dt_map.specs.Typemap.{shift}
 use Rattle.dt_map.proofs.Seats.{length-run}
 use Rattle.dt_map.proofs.Summaries.{length-shift}
 use Rattle.dt_tree.specs.declared.node.Node.{Node}
-use Rattle.dt_tree.specs.declared.node.Node.TheVariants.{Leaf, Vector, Index, Group}
+use Rattle.dt_tree.specs.declared.node.Node.TheVariants.{Vector, Index}
 use Rattle.dt_tree.specs.declared.place.Place.{Place}
-use Rattle.dt_tree.specs.Node.{tree_of, trees_of}
+use Rattle.dt_tree.specs.Node.{tree_of}
 use Rattle.dt_tree.specs.Place.{IsPlaceAt}
 use Rattle.dt_tree.specs.Rule.{depth_of, numbers_fit, AreShort}
-use Rattle.dt_tree.specs.Tree.{Tree, vector, index, group, Parts, part, flat, flat_parts}
+use Rattle.dt_tree.specs.Tree.{Tree, Parts, part, flat, flat_parts}
 use Rattle.dt_tree.proofs.Amounts.{of_vector_number, of_index_number}
-use Rattle.dt_tree.proofs.Entries.{within_copies, place_in_vector, place_of_copy, place_in_part}
+use Rattle.dt_tree.proofs.Entries.{within_copies, place_in_vector, place_of_copy}
 use Rattle.dt_tree.proofs.Limits.{of_vector_fits, of_index_fits}
 use Rattle.dt_tree.proofs.Nodes.{of_vector, of_index}
 

@@ -1,4 +1,5 @@
 pub mod Cost
+pub mod Flatten
 pub mod Laws
 pub mod Least
 pub mod Measure

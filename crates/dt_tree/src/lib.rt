@@ -4,6 +4,7 @@
 mod bounds;
 mod cost;
 mod count;
+pub mod fault;
 mod find;
 pub mod laws;
 mod measure;
@@ -14,7 +15,8 @@ mod span;
 pub mod tree;
 pub mod weights;
 
+pub use fault::{FlattenFault, ShapeFault};
 pub use node::{GroupPart, Node};
 pub use place::Place;
-pub use tree::{ShapeFault, Tree};
+pub use tree::Tree;
 pub use weights::Weights;

@@ -1,5 +1,4 @@
-use Rattle.std.proofs.Common.{◌≡◌, ◌∙◌, ◌+◌, ap, sym, subst, refl, Some, ◌<◌, ℕ, max, true, arith, drop, rules}
-use Rattle.std.specs.Option.{IsSome, MatchOption}
+use Rattle.std.proofs.Common.{◌≡◌, ◌∙◌, ◌+◌, ap, sym, subst, Some, ◌<◌, ℕ, max, arith, drop, rules}
 use Rattle.dt_map.specs.Bounds.{alignment}
 use Rattle.dt_map.specs.Runs.{placed_at, even, run}
 use Rattle.dt_map.specs.Placing.{joined_marks}
@@ -11,7 +10,7 @@ use Rattle.dt_map.proofs.Extremes.{alignment-pos}
 use Rattle.dt_tree.specs.declared.node.Node.TheVariants.{Vector, Index, Group}
 use Rattle.dt_tree.specs.Measure.{IsMeasure, IsShortMeasure}
 use Rattle.dt_tree.specs.Node.{tree_of, trees_of}
-use Rattle.dt_tree.specs.Rule.{numbers_fit, depth_of, depth_of_parts, parts_fit, PartsShort}
+use Rattle.dt_tree.specs.Rule.{depth_of, depth_of_parts, parts_fit, PartsShort}
 use Rattle.dt_tree.specs.Tree.{flat, flat_parts, group, part}
 use Rattle.dt_tree.proofs.Limits.{of_vector_fits, of_group_fits, part_fits, step_back}
 use Rattle.dt_tree.proofs.NodeMeasures.{vector_measured, index_measured, group_measured, part_span, part_align}

@@ -1,4 +1,4 @@
-use Rattle.std.proofs.Common.{◌≡◌, ◌+◌, ◌<◌, ◌≤◌, drop}
+use Rattle.std.proofs.Common.{◌≡◌, ◌+◌, ◌<◌, drop}
 use Rattle.dt_tree.specs.Cost.{cost_of, cost_of_parts}
 use Rattle.dt_tree.specs.Node.{tree_of, trees_of}
 use Rattle.dt_tree.specs.Rule.{depth_of, depth_of_parts}

@@ -1,9 +1,9 @@
-use Rattle.std.proofs.Common.{◌≡◌, ◌∙◌, ◌+◌, ◌*◌, ap, sym, length, drop, arith}
+use Rattle.std.proofs.Common.{◌∙◌, ◌+◌, ◌*◌, ap, sym, length, drop, arith}
 use Rattle.dt_tree.specs.declared.node.Node.TheVariants.{Vector, Index}
 use Rattle.dt_tree.specs.Node.{tree_of, trees_of}
 use Rattle.dt_tree.specs.Number.{capped}
 use Rattle.dt_tree.specs.Rule.{depth_of_parts}
-use Rattle.dt_tree.specs.Tree.{flat, flat_parts, part}
+use Rattle.dt_tree.specs.Tree.{flat, flat_parts}
 use Rattle.dt_tree.proofs.Amounts.{of_vector_number, of_index_number, number_of_part, total_more}
 use Rattle.dt_tree.proofs.Nodes.{rest_more}
 use Rattle.dt_tree.proofs.count.+number.Goals as goal

@@ -1,16 +1,16 @@
 use lib.Signed.{mag}
 use mir.Syntax.{w64, w128}
 use mir.Val.{to_z, of_z}
-use Rattle.std.proofs.Common.{◌≡◌, ℤ, ◌∙◌, ◌+◌, ◌-◌, ◌*◌, ◌/◌, ◌%◌, ◌<◌, ◌≤◌, ap, sym, subst, refl, true, pos, nat_abs, ◌+ℤ◌, ◌*ℤ◌, length, drop, get_or, arith}
-use Rattle.dt_map.specs.Runs.{placed_at, even, run}
+use Rattle.std.proofs.Common.{◌≡◌, ℤ, ◌∙◌, ◌+◌, ◌-◌, ◌*◌, ◌<◌, ◌≤◌, ap, sym, subst, pos, nat_abs, ◌+ℤ◌, ◌*ℤ◌, length, drop, get_or, arith}
+use Rattle.dt_map.specs.Runs.{run}
 use Rattle.dt_map.proofs.Seats.{length-run}
-use Rattle.dt_tree.specs.declared.node.Node.TheVariants.{Vector, Index, Group}
+use Rattle.dt_tree.specs.declared.node.Node.TheVariants.{Vector, Index}
 use Rattle.dt_tree.specs.Node.{tree_of, trees_of}
 use Rattle.dt_tree.specs.Number.{capped}
 use Rattle.dt_tree.specs.Measure.{IsMeasured}
 use Rattle.dt_tree.specs.Place.{place_of, IsPlaceAt}
 use Rattle.dt_tree.specs.Rule.{depth_of, depth_of_parts, parts_fit, AreShort, PartsShort}
-use Rattle.dt_tree.specs.Tree.{flat, flat_parts, group, part}
+use Rattle.dt_tree.specs.Tree.{flat, flat_parts, group}
 use Rattle.dt_tree.proofs.Amounts.{number_of_part}
 use Rattle.dt_tree.proofs.Entries.{place_in_run, place_in_part, short_place, within_copies}
 use Rattle.dt_tree.proofs.Limits.{of_vector_fits, of_index_fits, of_group_fits, part_fits, step_back, step_at}
@@ -18,7 +18,7 @@ use Rattle.dt_tree.proofs.Measures.{measure_ordered, measure_aligned}
 use Rattle.dt_tree.proofs.Nodes.{of_vector, of_index, of_group, rest_more, rest_none}
 use Rattle.dt_tree.proofs.Rules.{own_short}
 use Rattle.dt_tree.proofs.Spans.{same128}
-use Rattle.dt_tree.proofs.Walks.{Walk, vector_walk, index_walk, each_of, in_vector_place, in_index_place, past_part}
+use Rattle.dt_tree.proofs.Walks.{vector_walk, index_walk, each_of, in_vector_place, in_index_place, past_part}
 use Rattle.dt_tree.proofs.find.+walk.Goals as goal
 
 moved_by : (d inner r x : ℤ) → d ≡ inner +ℤ to_z w128 (of_z w128 r) → mag r < 170141183460469231731687303715884105728 → r ≡ x → d ≡ inner +ℤ x
@@ -69,10 +69,10 @@ find-returns-in-Vector t c =
     let fits = of_vector_fits c.args.node.now v.count v.block v.stride child c.requires.numbers is in
     let back = step_back v.stride fits.stride_fits in
     let found =
-        in_vector_place v.block c.args.k c.split-turn.result.0 c.split-turn.result.1 (each_of v.block child) es c.find_in_block-inner.result c.moved.result
-        (sym (length-run v.block es)) (c.split-turn.ensures.left (each_of v.block child) each) (c.split-turn.ensures.times (each_of v.block child) each)
-        c.find_in_block-inner.ensures.value c.moved.ensures.kind v.count v.stride walk.total (moved_by c.moved.result.disp c.find_in_block-inner.result.disp c.steps.result (pos c.split-turn.result.0 *ℤ v.stride) c.moved.ensures.disp c.steps.type_inv
-        (c.steps.ensures.value ∙ ap (λ z. pos c.split-turn.result.0 *ℤ z) back)) in
+    in_vector_place v.block c.args.k c.split-turn.result.0 c.split-turn.result.1 (each_of v.block child) es c.find_in_block-inner.result c.moved.result
+    (sym (length-run v.block es)) (c.split-turn.ensures.left (each_of v.block child) each) (c.split-turn.ensures.times (each_of v.block child) each)
+    c.find_in_block-inner.ensures.value c.moved.ensures.kind v.count v.stride walk.total (moved_by c.moved.result.disp c.find_in_block-inner.result.disp c.steps.result (pos c.split-turn.result.0 *ℤ v.stride) c.moved.ensures.disp c.steps.type_inv
+    (c.steps.ensures.value ∙ ap (λ z. pos c.split-turn.result.0 *ℤ z) back)) in
     subst (λ tree. IsPlaceAt (flat tree) c.args.k c.moved.result) (sym (ap tree_of is ∙ of_vector v.count v.block v.stride child)) found
 
 pub find-split-turn-requires-in-Index : goal.find-split-turn-requires-in-Index
@@ -125,17 +125,17 @@ find-returns-in-Index t c =
     let place = get_or v.places c.split-turn-in-Index.result.0 (pos 0) in
     let near = step_at v.places c.split-turn-in-Index.result.0 fits.places_fit (omega (arith, turn, walk.turn)) in
     let found =
-        in_index_place v.block c.args.k c.split-turn-in-Index.result.0 c.split-turn-in-Index.result.1 (each_of v.block child) es c.find_in_block-inner-in-Index.result c.moved-in-Index.result
-        (sym (length-run v.block es)) (c.split-turn-in-Index.ensures.left (each_of v.block child) each) (c.split-turn-in-Index.ensures.times (each_of v.block child) each)
-        c.find_in_block-inner-in-Index.ensures.value c.moved-in-Index.ensures.kind v.places walk.total (moved_by c.moved-in-Index.result.disp c.find_in_block-inner-in-Index.result.disp c.from-in-Index-2.result place c.moved-in-Index.ensures.disp c.from-in-Index-2.type_inv
-        (c.from-in-Index-2.ensures ∙ (ap (λ xs. to_z w64 (of_z w64 (get_or xs c.split-turn-in-Index.result.0 (pos 0)))) c.as_slice.ensures ∙ step_back place near))) in
+    in_index_place v.block c.args.k c.split-turn-in-Index.result.0 c.split-turn-in-Index.result.1 (each_of v.block child) es c.find_in_block-inner-in-Index.result c.moved-in-Index.result
+    (sym (length-run v.block es)) (c.split-turn-in-Index.ensures.left (each_of v.block child) each) (c.split-turn-in-Index.ensures.times (each_of v.block child) each)
+    c.find_in_block-inner-in-Index.ensures.value c.moved-in-Index.ensures.kind v.places walk.total (moved_by c.moved-in-Index.result.disp c.find_in_block-inner-in-Index.result.disp c.from-in-Index-2.result place c.moved-in-Index.ensures.disp c.from-in-Index-2.type_inv
+    (c.from-in-Index-2.ensures ∙ (ap (λ xs. to_z w64 (of_z w64 (get_or xs c.split-turn-in-Index.result.0 (pos 0)))) c.as_slice.ensures ∙ step_back place near))) in
     subst (λ tree. IsPlaceAt (flat tree) c.args.k c.moved-in-Index.result) (sym (ap tree_of is ∙ of_index v.block v.places child)) found
 
 pub find-parts-init : goal.find-parts-init
 find-parts-init t c =
     let list = c.as_slice-part-items.ensures in
     let same : tree_of c.args.node.now ≡ group (trees_of c.as_slice-part-items.result.now) =
-        ap tree_of c.in-Group.is ∙ (of_group c.in-Group.parts ∙ ap (λ ps. group (trees_of ps)) (sym list)) in
+    ap tree_of c.in-Group.is ∙ (of_group c.in-Group.parts ∙ ap (λ ps. group (trees_of ps)) (sym list)) in
     let fits = of_group_fits c.args.node.now c.in-Group.parts c.requires.numbers c.in-Group.is in
     record {
       entry = λ d. ap (λ tree. get_or (flat tree) c.args.k d) (sym same);
@@ -154,8 +154,7 @@ find-find_in_block-inner-requires-then-from-each t c =
     let fits = part_fits p.block p.disp (tree_of p.node) after (sym (ap parts_fit more) ∙ c.parts.invariant.fit) in
     let short = subst PartsShort more c.parts.invariant.short in
     let count = each_of p.block p.node in
-    let each = c.times-each-in-parts.ensures (length (flat (tree_of p.node))) c.number-in-parts.ensures ∙ ap (λ b. capped (b * length (flat (tree_of p.node)))) c.from-in-parts.ensures in
-    (
+    let each = c.times-each-in-parts.ensures (length (flat (tree_of p.node))) c.number-in-parts.ensures ∙ ap (λ b. capped (b * length (flat (tree_of p.node)))) c.from-in-parts.ensures in (
       omega (arith, c.parts.invariant.shallow, ap depth_of_parts more, c.decreases),
       (fits.child_fits, (short.0, (fits.block_fits.1, omega (arith, c.if-from-each.true, c.from-in-parts-2.ensures, each)))),
     )
@@ -171,12 +170,12 @@ find-returns-then-from-each t c =
     let count = each_of p.block p.node in
     let each = c.times-each-in-parts.ensures (length (flat (tree_of p.node))) c.number-in-parts.ensures ∙ ap (λ b. capped (b * length (flat (tree_of p.node)))) c.from-in-parts.ensures in
     λ d.
-        let here : c.parts.left < count = omega (arith, c.if-from-each.true, c.from-in-parts-2.ensures, each) in
-        let es = run p.block (flat (tree_of p.node)) in
-        place_in_part p.disp es (flat_parts after) c.parts.left c.find_in_block-inner-then-from-each.result c.moved-then-from-each.result (omega (arith, here, length-run p.block (flat (tree_of p.node))))
-        c.find_in_block-inner-then-from-each.ensures.value c.moved-then-from-each.ensures.kind (moved_by c.moved-then-from-each.result.disp c.find_in_block-inner-then-from-each.result.disp c.from-then-from-each.result p.disp c.moved-then-from-each.ensures.disp
-        c.from-then-from-each.type_inv (c.from-then-from-each.ensures ∙ step_back p.disp fits.disp_fits)) d
-        ∙ ap place_of (sym (ap (λ ps. get_or (flat_parts ps) c.parts.left d) more) ∙ c.parts.invariant.entry d)
+    let here : c.parts.left < count = omega (arith, c.if-from-each.true, c.from-in-parts-2.ensures, each) in
+    let es = run p.block (flat (tree_of p.node)) in
+    place_in_part p.disp es (flat_parts after) c.parts.left c.find_in_block-inner-then-from-each.result c.moved-then-from-each.result (omega (arith, here, length-run p.block (flat (tree_of p.node))))
+    c.find_in_block-inner-then-from-each.ensures.value c.moved-then-from-each.ensures.kind (moved_by c.moved-then-from-each.result.disp c.find_in_block-inner-then-from-each.result.disp c.from-then-from-each.result p.disp c.moved-then-from-each.ensures.disp
+    c.from-then-from-each.type_inv (c.from-then-from-each.ensures ∙ step_back p.disp fits.disp_fits)) d
+    ∙ ap place_of (sym (ap (λ ps. get_or (flat_parts ps) c.parts.left d) more) ∙ c.parts.invariant.entry d)
 
 pub find-parts-preserved : goal.find-parts-preserved
 find-parts-preserved t c =

@@ -1,5 +1,5 @@
 use mir.Syntax.{w64}
-use Rattle.std.proofs.Common.{◌≡◌, ◌∙◌, ap, arith}
+use Rattle.std.proofs.Common.{◌∙◌, ap, arith}
 use Rattle.std.proofs.lemmas.Int.{to_z-of_z}
 use Rattle.dt_map.proofs.Seats.{length-even}
 use Rattle.dt_map.specs.Runs.{placed_at, even, run}

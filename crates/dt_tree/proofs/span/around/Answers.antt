@@ -3,7 +3,6 @@ use mir.Val.{SFits}
 use Rattle.std.proofs.Common.{◌≡◌, ◌∙◌, ap, get_or, pos, Some, drop, ◌+◌}
 use Rattle.std.proofs.lemmas.Int.{to_z-of_z}
 use Rattle.std.proofs.Common.{rules}
-use Rattle.dt_map.specs.declared.typemap.Marks.{Marks}
 use Rattle.dt_map.specs.Span.{reach_of}
 use Rattle.dt_map.specs.Placing.{joined_marks}
 use Rattle.dt_map.proofs.Summaries.{both}

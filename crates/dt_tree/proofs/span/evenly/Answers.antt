@@ -1,5 +1,5 @@
 use mir.Syntax.{w64}
-use Rattle.std.proofs.Common.{◌≡◌, ◌∙◌, ap, pos, ◌*ℤ◌, ◌-◌}
+use Rattle.std.proofs.Common.{◌∙◌, ap, pos, ◌*ℤ◌, ◌-◌}
 use Rattle.std.proofs.lemmas.Int.{to_z-of_z}
 use Rattle.dt_tree.proofs.Spans.{even_reach, same128}
 use Rattle.dt_tree.proofs.span.evenly.Goals as goal

@@ -1,6 +1,5 @@
-use Rattle.std.proofs.Common.{◌≡◌, true, sym}
+use Rattle.std.proofs.Common.{sym}
 use Rattle.dt_tree.specs.Node.{tree_of}
-use Rattle.dt_tree.specs.Rule.{FollowsRule}
 use Rattle.dt_tree.proofs.Rules.{short_subtrees}
 use Rattle.dt_tree.proofs.tree.follows_rule.Goals as goal
 

@@ -1,4 +1,4 @@
-use Rattle.std.proofs.Common.{◌≡◌, ◌∙◌, ap, pos, ◌+◌}
+use Rattle.std.proofs.Common.{◌∙◌, ap, pos, ◌+◌}
 use Rattle.dt_map.specs.Numbers.{padding}
 use Rattle.dt_tree.proofs.Measures.{measure_extent}
 use Rattle.dt_tree.proofs.measure.Measure.extent.Goals as goal
