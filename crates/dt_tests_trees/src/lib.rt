@@ -1,6 +1,14 @@
-//! The tests of what least trees stand on: classes of alike segments. Their expected values come from this project's documents or were
-//! worked by hand, never from a run of the code.
+//! The tests of trees and of what least trees stand on, one module a topic. Their expected values come from this project's documents or
+//! were worked by hand, never from a run of the code.
 #![tactic(auto)]
 
 #[cfg(test)]
 mod classes;
+#[cfg(test)]
+mod limits;
+#[cfg(test)]
+mod nodes;
+#[cfg(test)]
+mod placed;
+#[cfg(test)]
+mod weights;

@@ -1,1 +1,11 @@
+pub mod Amounts
+pub mod Entries
+pub mod Limits
+pub mod Measures
+pub mod NodeMeasures
+pub mod Nodes
+pub mod Prices
+pub mod Rules
+pub mod Spans
 pub mod Subtrees
+pub mod Walks

@@ -1,7 +1,8 @@
-use Rattle.std.specs.Prelude.{ℕ, ◌+◌, ◌*◌, ◌≤◌, ◌<◌, ◌+ℤ◌, ℤ, IsTrue, List, length}
-use Rattle.dt_map.specs.declared.entry.Entry.{Entry}
+use Rattle.std.specs.Prelude.{◌↔◌, ℕ, ◌+◌, ◌*◌, ◌≤◌, ◌<◌, ◌+ℤ◌, ℤ, IsTrue, List, length}
+use Rattle.dt_map.specs.declared.typemap.Entry.{Entry}
 use Rattle.dt_map.specs.Typemap.{shift}
 use Rattle.dt_map.specs.Alike.{segment, are_stacked}
+use Rattle.dt_tree.specs.Rule.{IsShort, AreShort, FollowsRule}
 use Rattle.dt_tree.specs.Tree.{Tree, flat, IsTree, Denotes, IsBlockIn, IsWithin}
 
 -- each tree places an entry
@@ -24,3 +25,11 @@ BlocksAreStacked =
     (tree node : Tree) (n : ℕ) (base : ℤ) (m : List Entry) → Denotes tree base m → IsBlockIn n node tree
     → (start : ℕ) × (y : ℤ) × (start + n * length (flat node) ≤ length m) × Denotes node y (segment m start (length (flat node)))
     × IsTrue (are_stacked m start (length (flat node)) n)
+
+-- the true bounds are short node by node exactly where those of each subtree are
+abbrev pub ShortSubtrees : Type 0
+ShortSubtrees = (tree : Tree) → AreShort tree ↔ ((node : Tree) → IsWithin node tree → IsShort (flat node))
+
+-- a tree that follows the rule of programs' trees is a tree
+abbrev pub RuleIsTree : Type 0
+RuleIsTree = (tree : Tree) → FollowsRule tree → IsTree tree

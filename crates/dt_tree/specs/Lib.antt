@@ -1,5 +1,11 @@
 pub mod Cost
+pub mod Flatten
 pub mod Laws
 pub mod Least
+pub mod Measure
+pub mod Node
+pub mod Number
+pub mod Place
+pub mod Rule
 pub mod Tree
 pub mod Weights

@@ -1,5 +1,5 @@
 //! Laws of trees, stated over their definitions. The functions do nothing.
-ghost use Rattle.dt_tree.specs.Laws.{PlacesAnEntry, DenotesFurther, SubtreesDenote, BlocksAreStacked};
+ghost use Rattle.dt_tree.specs.Laws.{PlacesAnEntry, DenotesFurther, SubtreesDenote, BlocksAreStacked, ShortSubtrees, RuleIsTree};
 
 /// Each tree places an entry.
 pub fn places_an_entry()
@@ -19,4 +19,14 @@ pub fn subtrees_denote()
 /// Where a subtree stands in a block, the copies of this block are stacked.
 pub fn blocks_are_stacked()
     ensures { BlocksAreStacked }
+{}
+
+/// True bounds are short node by node exactly where those of each subtree are.
+pub fn short_subtrees()
+    ensures { ShortSubtrees }
+{}
+
+/// A tree that follows the rule of programs' trees has counts of at least 1 and lists with members.
+pub fn rule_is_tree()
+    ensures { RuleIsTree }
 {}

@@ -62,6 +62,13 @@ impl Weights {
         })
     }
 
+    /// Each of them is within its limit.
+    pub(crate) fn are_light(&self)
+        ensures { AreLight self.now }
+    {
+        let _ = &self.leaf;
+    }
+
     /// The weight of a leaf.
     pub fn leaf(&self) -> u32
         ensures value { result ≡ self.now.leaf }

@@ -1,0 +1,7 @@
+use Rattle.std.proofs.Common.{◌≡◌, drop}
+use Rattle.dt_map.specs.Placing.{joined_marks}
+use Rattle.dt_map.specs.Span.{reach_of}
+use Rattle.dt_tree.proofs.span.around.Given as goal
+
+abbrev pub invariant-places : goal.invariant-places
+invariant-places l = joined_marks l.span (reach_of (drop l.place-index l.places)) ≡ reach_of l.places
