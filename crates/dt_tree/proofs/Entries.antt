@@ -4,13 +4,13 @@ use Rattle.std.proofs.lemmas.Int.{ints, clamps}
 use Rattle.std.proofs.lemmas.List.{get_or-map, get_or_append_left, get_or-append_right, map-append, take_more}
 use Rattle.std.proofs.Math.IntN.{pos-*ℤ-pos}
 use Rattle.std.proofs.Math.Nat.{mod-add-div, mod-lt, div-lt_iff_lt-mul}
-use Rattle.dt_map.specs.declared.typemap.Entry.{Entry}
-use Rattle.dt_map.specs.declared.typemap.Marks.{Marks}
+use Rattle.dt_map.specs.declared.entry.Entry.{Entry}
+use Rattle.dt_offsets.specs.declared.marks.Marks.{Marks}
 use Rattle.dt_map.specs.Bounds.{end_of}
-use Rattle.dt_map.specs.Placing.{joined_marks}
+use Rattle.dt_offsets.specs.Span.{joined_marks}
 use Rattle.dt_map.specs.Runs.{placed_at, even, run, natural_extent}
 use Rattle.dt_map.specs.Span.{entry_span, span_of}
-use Rattle.dt_map.specs.Summary.{lb_or_zero, ub_or_zero}
+use Rattle.dt_map.specs.Summary.{ends_or_zero}
 use Rattle.std.specs.Int.{int_min, int_max}
 use Rattle.std.specs.Prelude.{◌↔◌}
 use Rattle.dt_kinds.specs.declared.kind.Kind.{Kind}
@@ -102,20 +102,20 @@ some_span (e ∷ es) some h = joined_some (entry_span e) (span_of es) h
 
 first_within : (e : Entry) (rest : Option Marks) (s : Marks) → joined_marks (entry_span e) rest ≡ Some s → (s.lb ≤ℤ e.disp) × (e.disp ≤ℤ s.ub)
 first_within e None s is =
-    let low : e.disp ≡ s.lb = ap lb_or_zero is in
-    let high : end_of e ≡ s.ub = ap ub_or_zero is in
+    let low : e.disp ≡ s.lb = ap (λ o. (ends_or_zero o).lb) is in
+    let high : end_of e ≡ s.ub = ap (λ o. (ends_or_zero o).ub) is in
     let after = end_after e in
     (omega (arith, ints), omega (arith, ints))
 first_within e (Some r) s is =
-    let low : int_min e.disp r.lb ≡ s.lb = ap lb_or_zero is in
-    let high : int_max (end_of e) r.ub ≡ s.ub = ap ub_or_zero is in
+    let low : int_min e.disp r.lb ≡ s.lb = ap (λ o. (ends_or_zero o).lb) is in
+    let high : int_max (end_of e) r.ub ≡ s.ub = ap (λ o. (ends_or_zero o).ub) is in
     let after = end_after e in
     (omega (arith, ints, clamps), omega (arith, ints, clamps))
 
 rest_within : (e : Entry) (r s : Marks) (x : ℤ) → joined_marks (entry_span e) (Some r) ≡ Some s → (r.lb ≤ℤ x) × (x ≤ℤ r.ub) → (s.lb ≤ℤ x) × (x ≤ℤ s.ub)
 rest_within e r s x is h =
-    let low : int_min e.disp r.lb ≡ s.lb = ap lb_or_zero is in
-    let high : int_max (end_of e) r.ub ≡ s.ub = ap ub_or_zero is in
+    let low : int_min e.disp r.lb ≡ s.lb = ap (λ o. (ends_or_zero o).lb) is in
+    let high : int_max (end_of e) r.ub ≡ s.ub = ap (λ o. (ends_or_zero o).ub) is in
     (omega (arith, ints, clamps, h.0), omega (arith, ints, clamps, h.1))
 
 entry_within : (es : List Entry) (k : ℕ) (d : Entry) (s : Marks) → span_of es ≡ Some s → k < length es → (s.lb ≤ℤ (get_or es k d).disp) × ((get_or es k d).disp ≤ℤ s.ub)
@@ -132,8 +132,8 @@ short_entry es k d short lt =
     (elim (span_of es) as (λ o. span_of es ≡ o → nat_abs (get_or es k d).disp ≤ 1208925819614629174706176) [
       | None ↦ λ none. absurd (some_span es (omega arith) none)
       | Some s ↦ λ some.
-          let low = true_lb_is es ∙ ap lb_or_zero some in
-          let high = true_ub_is es ∙ ap ub_or_zero some in
+          let low = true_lb_is es ∙ ap (λ o. (ends_or_zero o).lb) some in
+          let high = true_ub_is es ∙ ap (λ o. (ends_or_zero o).ub) some in
           let within = entry_within es k d s some lt in
           omega (arith, ints, low, high, within.0, within.1, short.from, short.to)
     ]) refl

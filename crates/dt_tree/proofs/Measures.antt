@@ -3,13 +3,14 @@ use Rattle.std.proofs.Common.{◌≡◌, ℕ, ◌+◌, ◌-◌, ◌*◌, ◌≤�
 use Rattle.std.proofs.lemmas.Int.{ints, clamps}
 use Rattle.std.proofs.Math.IntN.{pos-*ℤ-pos}
 use Rattle.std.proofs.Math.Nat.{mul-le-mul}
-use Rattle.dt_map.specs.declared.typemap.Entry.{Entry}
-use Rattle.dt_map.specs.declared.typemap.Marks.{Marks}
+use Rattle.dt_map.specs.declared.entry.Entry.{Entry}
+use Rattle.dt_offsets.specs.declared.marks.Marks.{Marks}
 use Rattle.dt_map.specs.Numbers.{padding}
 use Rattle.dt_map.specs.Bounds.{alignment, true_lb, true_ub, natural_end}
 use Rattle.dt_map.specs.Runs.{placed_at, even, run, natural_extent}
-use Rattle.dt_map.specs.Span.{reach_of, span_of, stretched}
-use Rattle.dt_map.specs.Summary.{lb_or_zero, ub_or_zero}
+use Rattle.dt_offsets.specs.Span.{reach_of, stretched}
+use Rattle.dt_map.specs.Span.{span_of}
+use Rattle.dt_map.specs.Summary.{ends_or_zero}
 use Rattle.dt_map.proofs.Extremes.{alignment-pos, alignment-le, true_bounds_ordered}
 use Rattle.dt_map.proofs.Seats.{length-even}
 use Rattle.dt_map.proofs.Summaries.{true_lb_is, true_ub_is}
@@ -21,10 +22,10 @@ use Rattle.dt_tree.specs.Rule.{IsShort}
 use Rattle.dt_tree.proofs.Spans.{span_of-placed_at, alignment-placed_at, even_reach}
 
 pub measure_lb : (es : List Entry) (span : Marks) (align : ℕ) → IsMeasure es span align → true_lb es ≡ span.lb
-measure_lb es span align m = true_lb_is es ∙ ap lb_or_zero m.0
+measure_lb es span align m = true_lb_is es ∙ ap (λ o. (ends_or_zero o).lb) m.0
 
 pub measure_ub : (es : List Entry) (span : Marks) (align : ℕ) → IsMeasure es span align → true_ub es ≡ span.ub
-measure_ub es span align m = true_ub_is es ∙ ap ub_or_zero m.0
+measure_ub es span align m = true_ub_is es ∙ ap (λ o. (ends_or_zero o).ub) m.0
 
 pub measure_ordered : (es : List Entry) (span : Marks) (align : ℕ) → IsMeasure es span align → span.lb ≤ℤ span.ub
 measure_ordered es span align m =

@@ -1,14 +1,14 @@
 -- the measures of nodes, one node at a time
 use Rattle.std.proofs.Common.{◌≡◌, ℕ, max, ℤ, Option, Some, None, List, sym, ap, ◌∙◌, subst, arith}
 use Rattle.dt_kinds.specs.declared.kind.Kind.{Kind}
-use Rattle.dt_map.specs.declared.typemap.Marks.{Marks}
+use Rattle.dt_offsets.specs.declared.marks.Marks.{Marks}
 use Rattle.dt_map.specs.Bounds.{alignment}
-use Rattle.dt_map.specs.Placing.{joined_marks}
+use Rattle.dt_offsets.specs.Span.{joined_marks}
 use Rattle.dt_map.specs.Runs.{placed_at, even, run}
 use Rattle.dt_map.specs.Span.{entry_span, span_of}
 use Rattle.dt_map.specs.Typemap.{shift}
 use Rattle.dt_map.proofs.Extremes.{alignment-append}
-use Rattle.dt_map.proofs.Summaries.{spans-append, joined_marks_assoc}
+use Rattle.dt_offsets.proofs.Spans.{spans-append, joined_marks_assoc}
 use Rattle.dt_tree.specs.declared.measure.Measure.{Measure}
 use Rattle.dt_tree.specs.declared.node.Node.{Node}
 use Rattle.dt_tree.specs.declared.node.Node.TheVariants.{Leaf, Vector, Index, Group}

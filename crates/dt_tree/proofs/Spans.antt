@@ -8,19 +8,19 @@ use Rattle.std.specs.List.{list_all}
 use lib.Signed.{mag}
 use mir.Syntax.{w128}
 use mir.Val.{to_z, of_z}
-use Rattle.dt_map.specs.declared.typemap.Entry.{Entry}
-use Rattle.dt_map.specs.declared.typemap.Marks.{Marks}
-use Rattle.dt_map.specs.Numbers.{below}
-use Rattle.dt_map.specs.Typemap.{shift, shift_marks}
+use Rattle.dt_map.specs.declared.entry.Entry.{Entry}
+use Rattle.dt_offsets.specs.declared.marks.Marks.{Marks}
+use Rattle.dt_offsets.specs.Offsets.{below}
+use Rattle.dt_map.specs.Typemap.{shift}
+use Rattle.dt_offsets.specs.Span.{shift_marks, joined_marks, point, reach_of, stretched}
 use Rattle.dt_map.specs.Bounds.{alignment}
-use Rattle.dt_map.specs.Placing.{joined_marks}
 use Rattle.dt_map.specs.Runs.{placed_at, even}
-use Rattle.dt_map.specs.Span.{point, entry_span, reach_of, span_of, stretched}
-use Rattle.dt_map.specs.Summary.{lb_or_zero, ub_or_zero}
+use Rattle.dt_map.specs.Span.{entry_span, span_of}
+use Rattle.dt_map.specs.Summary.{ends_or_zero}
 use Rattle.dt_tree.specs.Rule.{is_step}
 use Rattle.dt_map.proofs.Extremes.{alignment-append, alignment-pos}
-use Rattle.dt_map.proofs.Offsets.{reach_of_even}
-use Rattle.dt_map.proofs.Summaries.{both, joined_marks_assoc, joined_marks_none, spans-append, span_of-shift, alignment-shift, stretched_more}
+use Rattle.dt_offsets.proofs.Spans.{reach_of_even, both, joined_marks_assoc, joined_marks_none, spans-append, stretched_more}
+use Rattle.dt_map.proofs.Summaries.{span_of-shift, alignment-shift}
 
 -- a number of 128 bits, read back
 pub same128 : (z : ℤ) → mag z < 170141183460469231731687303715884105728 → to_z w128 (of_z w128 z) ≡ z
@@ -84,12 +84,12 @@ alignment-placed_at (x ∷ (y ∷ ys)) es some =
 near_joined : (bound : ℕ) (x : ℤ) (rest : Option Marks) (r : Marks) → nat_abs x ≤ bound → ((s : Marks) → rest ≡ Some s → (nat_abs s.lb ≤ bound) × (nat_abs s.ub ≤ bound)) →
     Some r ≡ joined_marks (point x) rest → (nat_abs r.lb ≤ bound) × (nat_abs r.ub ≤ bound)
 near_joined bound x None r near each is =
-    let low : r.lb ≡ x = ap lb_or_zero is in
-    let high : r.ub ≡ x = ap ub_or_zero is in
+    let low : r.lb ≡ x = ap (λ o. (ends_or_zero o).lb) is in
+    let high : r.ub ≡ x = ap (λ o. (ends_or_zero o).ub) is in
     (omega (arith, ints), omega (arith, ints))
 near_joined bound x (Some s) r near each is =
-    let low : r.lb ≡ int_min x s.lb = ap lb_or_zero is in
-    let high : r.ub ≡ int_max x s.ub = ap ub_or_zero is in
+    let low : r.lb ≡ int_min x s.lb = ap (λ o. (ends_or_zero o).lb) is in
+    let high : r.ub ≡ int_max x s.ub = ap (λ o. (ends_or_zero o).ub) is in
     let h = each s refl in
     (omega (arith, ints, clamps), omega (arith, ints, clamps))
 

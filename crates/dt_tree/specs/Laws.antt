@@ -1,5 +1,5 @@
 use Rattle.std.specs.Prelude.{◌↔◌, ℕ, ◌+◌, ◌*◌, ◌≤◌, ◌<◌, ◌+ℤ◌, ℤ, IsTrue, List, length}
-use Rattle.dt_map.specs.declared.typemap.Entry.{Entry}
+use Rattle.dt_map.specs.declared.entry.Entry.{Entry}
 use Rattle.dt_map.specs.Typemap.{shift}
 use Rattle.dt_map.specs.Alike.{segment, are_stacked}
 use Rattle.dt_tree.specs.Rule.{IsShort, AreShort, FollowsRule}

@@ -1,6 +1,6 @@
 use Rattle.std.specs.Prelude.{◌≡◌, ℕ, ◌≤◌, Option, Some, nat_abs, List, MatchOption}
-use Rattle.dt_map.specs.declared.typemap.Entry.{Entry}
-use Rattle.dt_map.specs.declared.typemap.Marks.{Marks}
+use Rattle.dt_map.specs.declared.entry.Entry.{Entry}
+use Rattle.dt_offsets.specs.declared.marks.Marks.{Marks}
 use Rattle.dt_map.specs.Bounds.{alignment}
 use Rattle.dt_map.specs.Span.{span_of}
 use Rattle.dt_tree.specs.declared.measure.Measure.{Measure}

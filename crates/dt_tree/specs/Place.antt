@@ -1,5 +1,5 @@
 use Rattle.std.specs.Prelude.{◌≡◌, ℕ, List, get_or}
-use Rattle.dt_map.specs.declared.typemap.Entry.{Entry}
+use Rattle.dt_map.specs.declared.entry.Entry.{Entry}
 use Rattle.dt_tree.specs.declared.place.Place.{Place}
 
 -- an entry of a tree as a place

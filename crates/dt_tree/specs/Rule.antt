@@ -1,6 +1,6 @@
 use Rattle.std.specs.Prelude.{ℕ, ◌+◌, ◌≤◌, Bool, true, ◌&&◌, nat_le, IsTrue, max, ℤ, nat_abs, List, length}
 use Rattle.std.specs.List.{list_all}
-use Rattle.dt_map.specs.declared.typemap.Entry.{Entry}
+use Rattle.dt_map.specs.declared.entry.Entry.{Entry}
 use Rattle.dt_map.specs.Bounds.{true_lb, true_ub}
 use Rattle.dt_tree.specs.Tree.{Tree, leaf, vector, index, group, Parts, no_parts, part, flat, IsWithin}
 

@@ -1,9 +1,9 @@
 //! The true bounds and the alignment of what nodes place, by arithmetic.
 ghost use Rattle.std.specs.Prelude.{◌≡◌, ◌≤◌, ◌<◌, Some, ◌≤ℤ◌, pos, nat_abs, List, length, IsTrue, MatchOption};
 ghost use Rattle.std.specs.List.{list_all};
-ghost use Rattle.dt_map.specs.declared.typemap.Entry.{Entry};
+ghost use Rattle.dt_map.specs.declared.entry.Entry.{Entry};
 ghost use Rattle.dt_map.specs.Runs.{natural_extent, placed_at, even, run};
-ghost use Rattle.dt_map.specs.Span.{stretched};
+ghost use Rattle.dt_offsets.specs.Span.{stretched};
 ghost use Rattle.dt_map.specs.Typemap.{shift};
 ghost use Rattle.dt_tree.specs.Measure.{IsNear, IsClose, IsMeasure, IsShortMeasure, IsWhole};
 ghost use Rattle.dt_tree.specs.Rule.{is_step};

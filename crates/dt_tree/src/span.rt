@@ -1,8 +1,7 @@
 //! Spans of numbers of bytes, wide enough for all that trees within the rule add up.
 ghost use Rattle.std.specs.Prelude.{◌≡◌, ◌≤◌, ◌<◌, Some, ◌-ℤ◌, ◌*ℤ◌, pos, nat_abs, [], ◌∷◌};
-ghost use Rattle.dt_map.specs.Placing.{joined_marks};
+ghost use Rattle.dt_offsets.specs.Span.{joined_marks, reach_of, stretched};
 ghost use Rattle.dt_map.specs.Runs.{even};
-ghost use Rattle.dt_map.specs.Span.{reach_of, stretched};
 ghost use Rattle.dt_tree.specs.Measure.{IsNear};
 
 use std::marker::Model;
@@ -15,7 +14,7 @@ pub(crate) struct Span {
 }
 
 impl Model for Span {
-    ghost use Rattle.dt_map.specs.declared.typemap.Marks.{Marks};
+    ghost use Rattle.dt_offsets.specs.declared.marks.Marks.{Marks};
 
     ghost Value = { Marks };
 

@@ -1,10 +1,10 @@
 use Rattle.std.proofs.Common.{◌≡◌, ◌∙◌, ◌+◌, ap, sym, subst, Some, ◌<◌, ℕ, max, arith, drop, rules}
 use Rattle.dt_map.specs.Bounds.{alignment}
 use Rattle.dt_map.specs.Runs.{placed_at, even, run}
-use Rattle.dt_map.specs.Placing.{joined_marks}
+use Rattle.dt_offsets.specs.Span.{joined_marks}
 use Rattle.dt_map.specs.Span.{span_of}
 use Rattle.dt_map.specs.Typemap.{shift}
-use Rattle.dt_map.proofs.Summaries.{joined_marks_none}
+use Rattle.dt_offsets.proofs.Spans.{joined_marks_none}
 use Rattle.dt_tree.specs.declared.measure.Measure.{Measure}
 use Rattle.dt_map.proofs.Extremes.{alignment-pos}
 use Rattle.dt_tree.specs.declared.node.Node.TheVariants.{Vector, Index, Group}

@@ -1,7 +1,7 @@
 use Rattle.std.proofs.Common.{◌≡◌, ◌<◌, true, max, drop}
 use Rattle.std.specs.Option.{IsSome}
 use Rattle.dt_map.specs.Bounds.{alignment}
-use Rattle.dt_map.specs.Placing.{joined_marks}
+use Rattle.dt_offsets.specs.Span.{joined_marks}
 use Rattle.dt_map.specs.Span.{span_of}
 use Rattle.dt_tree.specs.Node.{tree_of, trees_of}
 use Rattle.dt_tree.specs.Rule.{depth_of, depth_of_parts, parts_fit, PartsShort}

@@ -1,5 +1,5 @@
 use Rattle.std.proofs.Common.{◌≡◌, ◌+◌, ◌*◌, ◌<◌, length, drop, get_or, true}
-use Rattle.dt_map.specs.declared.typemap.Entry.{Entry}
+use Rattle.dt_map.specs.declared.entry.Entry.{Entry}
 use Rattle.dt_tree.specs.Node.{tree_of, trees_of}
 use Rattle.dt_tree.specs.Rule.{depth_of, depth_of_parts, parts_fit, PartsShort}
 use Rattle.dt_tree.specs.Tree.{flat, flat_parts}

@@ -1,6 +1,6 @@
 use Rattle.std.proofs.Common.{◌≡◌, ◌∙◌, Option, Some, None, refl, sym, arith, rules}
 use Rattle.std.specs.Option.{IsSome}
-use Rattle.dt_map.specs.declared.typemap.Marks.{Marks}
+use Rattle.dt_offsets.specs.declared.marks.Marks.{Marks}
 use Rattle.dt_map.specs.Runs.{placed_at, run}
 use Rattle.dt_tree.proofs.Measures.{short_measure, measure_blocks}
 use Rattle.dt_tree.proofs.Spans.{near_reach, some_reach}

@@ -2,7 +2,7 @@ use mir.Syntax.{w64}
 use Rattle.std.proofs.Common.{◌∙◌}
 use Rattle.std.proofs.lemmas.Int.{to_z-of_z}
 use Rattle.dt_map.specs.Runs.{run}
-use Rattle.dt_map.proofs.Summaries.{both}
+use Rattle.dt_offsets.proofs.Spans.{both}
 use Rattle.dt_tree.proofs.Measures.{measure_shifted}
 use Rattle.dt_tree.proofs.Spans.{same128}
 use Rattle.dt_tree.proofs.measure.in_part.Goals as goal

@@ -3,7 +3,7 @@ use Rattle.std.proofs.Common.{◌∙◌, ap, arith}
 use Rattle.std.proofs.lemmas.Int.{to_z-of_z}
 use Rattle.dt_map.proofs.Seats.{length-even}
 use Rattle.dt_map.specs.Runs.{placed_at, even, run}
-use Rattle.dt_map.specs.Span.{reach_of}
+use Rattle.dt_offsets.specs.Span.{reach_of}
 use Rattle.dt_tree.proofs.Measures.{short_measure, measure_blocks}
 use Rattle.dt_tree.proofs.measure.in_vector.Goals as goal
 

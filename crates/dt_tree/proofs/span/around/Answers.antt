@@ -1,11 +1,9 @@
 use mir.Syntax.{w64}
 use mir.Val.{SFits}
-use Rattle.std.proofs.Common.{◌≡◌, ◌∙◌, ap, get_or, pos, Some, drop, ◌+◌}
+use Rattle.std.proofs.Common.{◌≡◌, ◌∙◌, ap, get_or, pos, Some, drop, ◌+◌, rules}
 use Rattle.std.proofs.lemmas.Int.{to_z-of_z}
-use Rattle.std.proofs.Common.{rules}
-use Rattle.dt_map.specs.Span.{reach_of}
-use Rattle.dt_map.specs.Placing.{joined_marks}
-use Rattle.dt_map.proofs.Summaries.{both}
+use Rattle.dt_offsets.specs.Span.{reach_of, joined_marks}
+use Rattle.dt_offsets.proofs.Spans.{both}
 use Rattle.dt_tree.proofs.Spans.{around_more, around_all, same128}
 use Rattle.dt_tree.proofs.span.around.Goals as goal
 

@@ -1,6 +1,5 @@
 use Rattle.std.proofs.Common.{◌≡◌, drop}
-use Rattle.dt_map.specs.Placing.{joined_marks}
-use Rattle.dt_map.specs.Span.{reach_of}
+use Rattle.dt_offsets.specs.Span.{joined_marks, reach_of}
 use Rattle.dt_tree.proofs.span.around.Given as goal
 
 abbrev pub invariant-places : goal.invariant-places

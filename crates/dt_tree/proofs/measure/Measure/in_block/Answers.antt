@@ -1,7 +1,7 @@
 use Rattle.std.proofs.Common.{◌∙◌, sym, subst, ap, ◌*◌, arith}
 use Rattle.std.proofs.lemmas.Int.{ints}
 use Rattle.dt_map.specs.Runs.{run}
-use Rattle.dt_map.proofs.Summaries.{both}
+use Rattle.dt_offsets.proofs.Spans.{both}
 use Rattle.dt_tree.specs.Measure.{IsMeasure}
 use Rattle.dt_tree.proofs.Measures.{measure_run, measure_ordered, measure_aligned, product_small}
 use Rattle.dt_tree.proofs.measure.Measure.in_block.Goals as goal
