@@ -8,4 +8,5 @@ pub mod Prices
 pub mod Rules
 pub mod Spans
 pub mod Subtrees
+pub mod Tidying
 pub mod Walks

@@ -1,8 +1,9 @@
-use Rattle.std.specs.Prelude.{◌↔◌, ℕ, ◌+◌, ◌*◌, ◌≤◌, ◌<◌, ◌+ℤ◌, ℤ, IsTrue, List, length}
+use Rattle.std.specs.Prelude.{◌≡◌, ◌↔◌, ℕ, ◌+◌, ◌*◌, ◌≤◌, ◌<◌, ◌+ℤ◌, ℤ, pos, IsTrue, List, length}
 use Rattle.dt_map.specs.declared.entry.Entry.{Entry}
 use Rattle.dt_map.specs.Typemap.{shift}
-use Rattle.dt_map.specs.Alike.{segment, are_stacked}
+use Rattle.dt_map.specs.Alike.{segment, first_disp, are_stacked}
 use Rattle.dt_tree.specs.Rule.{IsShort, AreShort, FollowsRule}
+use Rattle.dt_tree.specs.Tidy.{IsTidy}
 use Rattle.dt_tree.specs.Tree.{Tree, flat, IsTree, Denotes, IsBlockIn, IsWithin}
 
 -- each tree places an entry
@@ -33,3 +34,7 @@ ShortSubtrees = (tree : Tree) → AreShort tree ↔ ((node : Tree) → IsWithin 
 -- a tree that follows the rule of programs' trees is a tree
 abbrev pub RuleIsTree : Type 0
 RuleIsTree = (tree : Tree) → FollowsRule tree → IsTree tree
+
+-- the first entry of a tidy tree stands at 0
+abbrev pub TidyBeginsAtZero : Type 0
+TidyBeginsAtZero = (tree : Tree) → IsTree tree → IsTidy tree → first_disp (flat tree) ≡ pos 0

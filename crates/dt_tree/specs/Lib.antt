@@ -7,5 +7,6 @@ pub mod Node
 pub mod Number
 pub mod Place
 pub mod Rule
+pub mod Tidy
 pub mod Tree
 pub mod Weights

@@ -1,5 +1,5 @@
 //! Laws of trees, stated over their definitions. The functions do nothing.
-ghost use Rattle.dt_tree.specs.Laws.{PlacesAnEntry, DenotesFurther, SubtreesDenote, BlocksAreStacked, ShortSubtrees, RuleIsTree};
+ghost use Rattle.dt_tree.specs.Laws.{PlacesAnEntry, DenotesFurther, SubtreesDenote, BlocksAreStacked, ShortSubtrees, RuleIsTree, TidyBeginsAtZero};
 
 /// Each tree places an entry.
 pub fn places_an_entry()
@@ -29,4 +29,9 @@ pub fn short_subtrees()
 /// A tree that follows the rule of programs' trees has counts of at least 1 and lists with members.
 pub fn rule_is_tree()
     ensures { RuleIsTree }
+{}
+
+/// The first entry of a tidy tree stands at 0, so that it stands for entries from the first displacement on.
+pub fn tidy_begins_at_zero()
+    ensures { TidyBeginsAtZero }
 {}
