@@ -1,0 +1,4 @@
+pub mod Answering
+pub mod Around
+pub mod Asking
+pub mod Placing
