@@ -1,7 +1,7 @@
 -- answers of constructors that are called one after another
-use Rattle.std.proofs.Common.{◌≡◌, inl, inr, true, ℕ, ◌+◌, ◌≤◌, ◌<◌, ℤ, pos, List, [], ◌∷◌, ◌++◌, drop, length, get_or, refl, sym, ap, ◌∙◌, subst, arith, append_assoc, append-nil, Result, Ok, Err, MatchResult}
+use Rattle.std.proofs.Common.{◌≡◌, inl, inr, true, ℕ, ◌+◌, ◌≤◌, ◌<◌, ℤ, pos, List, [], ◌∷◌, ◌++◌, drop, length, get_or, sym, ap, ◌∙◌, subst, arith, append_assoc, append-nil, Result, Ok, Err}
 use Rattle.std.proofs.lemmas.Int.{ints}
-use mir.Syntax.{w32, w64}
+use mir.Syntax.{w32}
 use mir.Val.{to_z, of_z}
 use Rattle.std.specs.List.{AllByRecursion}
 use Rattle.dt_form.specs.declared.form.FormOf.{FormOf}
@@ -9,16 +9,16 @@ use Rattle.dt_form.specs.declared.form.FormOf.TheVariants.{Hvector, HindexedBloc
 use Rattle.dt_form.specs.declared.form.PartOf.{PartOf}
 use Rattle.dt_type.specs.declared.datatype.Seen.{Seen}
 use Rattle.dt_type.specs.declared.fault.CtorFault.{CtorFault}
-use Rattle.dt_type.specs.Answer.{IsAnswer, IsMade, IsCause}
+use Rattle.dt_type.specs.Answer.{IsAnswer, IsMade}
 use Rattle.dt_type.specs.Form.{result_of}
 use Rattle.dt_tree.specs.declared.node.Node.{Node}
-use Rattle.dt_tree.specs.declared.node.Node.TheVariants.{Leaf, Vector, Index, Group}
+use Rattle.dt_tree.specs.declared.node.Node.TheVariants.{Vector, Index, Group}
 use Rattle.dt_tree.specs.declared.node.PartOf.{PartOf as TreePartOf}
 use Rattle.dt_tree.specs.Node.{tree_of, trees_of}
-use Rattle.dt_tree.specs.Tree.{Tree, leaf, vector, index, group, Parts, no_parts, part}
+use Rattle.dt_tree.specs.Tree.{vector, index, group, part}
 use Rattle.dt_tree.specs.Rule.{parts_fit, depth_of_parts}
-use Rattle.dt_tree.proofs.Limits.{PartFits, part_fits}
-use Rattle.dt_tree.proofs.Nodes.{of_leaf, of_vector, of_index, of_group, rest_more, rest_none}
+use Rattle.dt_tree.proofs.Limits.{PartFits, part_fits, of_vector_fits, of_index_fits, of_group_fits}
+use Rattle.dt_tree.proofs.Nodes.{of_leaf, of_vector, of_index, of_group, rest_more, rest_none, count_of}
 use Rattle.dt_rebuild.specs.Answer.{IsTaken, IsFirstCause, IsRefusalIn, IsMadeBy, IsAnswerOf}
 use Rattle.dt_rebuild.specs.Built.{form_of_tree, type_of_tree, typed, forms_in, forms_among}
 
@@ -80,7 +80,7 @@ module _ (node : Node) (count block : ℕ) (stride : ℤ) (child : Node) (is : n
       c ≡ pos count → b ≡ pos block → s ≡ stride → IsAnswer (Hvector c b s old) answer → IsAnswerOf (forms_in (tree_of node)) (type_of_tree (tree_of node)) answer
   vector_made c b s old answer made counts blocks strides h =
       let same : Hvector c b s old ≡ form_of_tree (vector count block stride (tree_of child)) =
-          ap (λ x. Hvector x b s old) counts ∙ (ap (λ x. Hvector (pos count) x s old) blocks ∙ (ap (λ x. Hvector (pos count) (pos block) x old) strides ∙ ap (Hvector (pos count) (pos block) stride) made.value)) in
+      ap (λ x. Hvector x b s old) counts ∙ (ap (λ x. Hvector (pos count) x s old) blocks ∙ (ap (λ x. Hvector (pos count) (pos block) x old) strides ∙ ap (Hvector (pos count) (pos block) stride) made.value)) in
       subst (λ t. IsAnswerOf (forms_in t) (type_of_tree t) answer) (sym vector_is)
       (one_more (forms_in (tree_of child)) (form_of_tree (vector count block stride (tree_of child))) answer made.taken (subst (λ f. IsAnswer f answer) same h))
 
@@ -100,7 +100,7 @@ module _ (node : Node) (block : ℕ) (places : List ℤ) (child : Node) (is : no
       b ≡ pos block → disps ≡ places → IsAnswer (HindexedBlock b disps old) answer → IsAnswerOf (forms_in (tree_of node)) (type_of_tree (tree_of node)) answer
   index_made b disps old answer made blocks same_places h =
       let same : HindexedBlock b disps old ≡ form_of_tree (index block places (tree_of child)) =
-          ap (λ x. HindexedBlock x disps old) blocks ∙ (ap (λ x. HindexedBlock (pos block) x old) same_places ∙ ap (HindexedBlock (pos block) places) made.value) in
+      ap (λ x. HindexedBlock x disps old) blocks ∙ (ap (λ x. HindexedBlock (pos block) x old) same_places ∙ ap (HindexedBlock (pos block) places) made.value) in
       subst (λ t. IsAnswerOf (forms_in t) (type_of_tree t) answer) (sym index_is)
       (one_more (forms_in (tree_of child)) (form_of_tree (index block places (tree_of child))) answer made.taken (subst (λ f. IsAnswer f answer) same h))
 
@@ -135,7 +135,7 @@ pub list_more : (parts : List (TreePartOf Node)) (i : ℕ) (p : TreePartOf Node)
     more ++ typed (trees_of (drop (i + 1) parts)) ≡ whole
 list_more parts i p list more len old whole lt is h lens olds next =
     let same : typed_part len p.disp old ≡ typed_part (pos p.block) p.disp (type_of_tree (tree_of p.node)) =
-        ap (λ x. typed_part x p.disp old) lens ∙ ap (typed_part (pos p.block) p.disp) olds in
+    ap (λ x. typed_part x p.disp old) lens ∙ ap (typed_part (pos p.block) p.disp) olds in
     ap (λ l. l ++ typed (trees_of (drop (i + 1) parts))) next
     ∙ (append_assoc list (typed_part len p.disp old ∷ []) (typed (trees_of (drop (i + 1) parts)))
     ∙ (ap (λ q. list ++ q ∷ typed (trees_of (drop (i + 1) parts))) same ∙ (sym (ap (λ t. list ++ typed t) (part_step parts i p lt is)) ∙ h)))
@@ -173,7 +173,7 @@ list_done parts i list whole end h = sym (append-nil list) ∙ (sym (ap (λ t. l
 pub nothing_after : (parts : List (TreePartOf Node)) (i : ℕ) → length parts ≤ i → AllByRecursion IsTaken (forms_among (trees_of (drop i parts)))
 nothing_after parts i end = subst (λ t. AllByRecursion IsTaken (forms_among t)) (sym (rest_none parts i end)) tt
 
-pub ruleset nodes = (vector_refused, vector_made, index_refused, index_made, group_refused, group_made)
+pub ruleset nodes = (vector_refused, vector_made, index_refused, index_made, group_refused, group_made, of_vector_fits, of_index_fits, of_group_fits, of_leaf, of_vector, of_index, of_group, rest_more, rest_none, count_of)
 
 -- marks round what is made
 pub one_around : (forms : List (FormOf Seen)) (form around : FormOf Seen) (t : Seen) (answer : Result Seen CtorFault) → IsMadeBy (forms ++ form ∷ []) (result_of form) t → IsAnswer around answer →

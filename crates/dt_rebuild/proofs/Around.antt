@@ -1,10 +1,9 @@
 -- what stands round the datatype of a tree: its base, and its marks
-use Rattle.std.proofs.Common.{◌≡◌, ℕ, ◌≤◌, ℤ, pos, ◌-ℤ◌, ◌+ℤ◌, nat_abs, Option, None, Some, List, [], ◌∷◌, ◌++◌, sym, ap, ◌∙◌, subst, Result, Ok, Err, Bor, arith}
+use Rattle.std.proofs.Common.{◌≡◌, ◌≤◌, ℤ, pos, ◌-ℤ◌, nat_abs, Option, None, Some, [], ◌∷◌, sym, ap, ◌∙◌, subst, Result, Ok, Err, Bor, arith}
 use Rattle.std.proofs.lemmas.Int.{ints}
 use mir.Syntax.{w64}
 use mir.Val.{to_z, of_z}
 use Rattle.std.specs.Option.{option_map}
-use Rattle.dt_form.specs.declared.form.FormOf.{FormOf}
 use Rattle.dt_form.specs.declared.form.FormOf.TheVariants.{HindexedBlock, Resized}
 use Rattle.dt_kinds.specs.Displacement.{FitsDisp}
 use Rattle.dt_map.specs.Limits.{MarksFit}
@@ -53,7 +52,7 @@ pub with_marks : (base b lb extent : ℤ) (tree : Option Tree) (marks : Option M
 with_marks base b lb extent tree marks m bare answer is at made_there lower spans h =
     let made = subst (λ x. IsMadeBy (all_forms x tree None) (result_of (form_at x tree)) bare) at made_there in
     let form : Resized lb extent bare ≡ marked_by m (form_at base tree) =
-        ap (λ x. Resized x extent bare) lower ∙ (ap (λ x. Resized m.lb x bare) spans ∙ ap (Resized m.lb (m.ub -ℤ m.lb)) made.value) in
+    ap (λ x. Resized x extent bare) lower ∙ (ap (λ x. Resized m.lb x bare) spans ∙ ap (Resized m.lb (m.ub -ℤ m.lb)) made.value) in
     subst (λ o. IsAnswerOf (all_forms base tree o) (built base tree o) answer) (sym is)
     (one_around (forms_within tree) (form_at base tree) (marked_by m (form_at base tree)) bare answer made (subst (λ f. IsAnswer f answer) form h))
 

@@ -1,19 +1,18 @@
 -- no constructor that a tree asks for has a bad argument
-use Rattle.std.proofs.Common.{◌≡◌, ap, ◌∙◌, inl, inr, IsTrue, Bool, true, ◌&&◌, ℕ, ℤ, pos, Option, None, Some, List, [], ◌∷◌, ◌++◌, refl, subst, sym, Result, Ok, Err, IsErrOf}
+use Rattle.std.proofs.Common.{◌≡◌, ap, ◌∙◌, inl, inr, IsTrue, Bool, true, ◌&&◌, ℕ, ℤ, pos, Option, None, Some, List, [], ◌∷◌, ◌++◌, refl, subst, Result, IsErrOf}
 use Rattle.std.proofs.Math.Dec.{leb-zero}
 use Rattle.std.specs.List.{AllByRecursion, list_all}
 use Rattle.dt_form.specs.Arguments.{is_count, takes_arguments}
 use Rattle.dt_form.specs.declared.form.FormOf.{FormOf}
-use Rattle.dt_form.specs.declared.form.FormOf.TheVariants.{Struct}
 use Rattle.dt_offsets.specs.declared.marks.Marks.{Marks}
 use Rattle.dt_type.specs.declared.datatype.Seen.{Seen}
 use Rattle.dt_type.specs.declared.fault.CtorFault.{CtorFault}
-use Rattle.dt_type.specs.declared.fault.CtorFault.TheVariants.{BadArgument, NoMemory}
+use Rattle.dt_type.specs.declared.fault.CtorFault.TheVariants.{BadArgument}
 use Rattle.dt_tree.specs.Tree.{Tree, leaf, vector, index, group, Parts, no_parts, part}
 use Rattle.dt_rebuild.specs.Answer.{IsFirstCause, IsRefusalIn, IsAnswerOf}
 use Rattle.dt_rebuild.specs.Built.{form_of_tree, typed, forms_in, forms_among, forms_within, forms_around, form_at, all_forms}
 
-abbrev Takes : FormOf Seen → Type 0
+abbrev pub Takes : FormOf Seen → Type 0
 Takes form = IsTrue (takes_arguments form)
 
 takes_both : (forms more : List (FormOf Seen)) → AllByRecursion Takes forms → AllByRecursion Takes more → AllByRecursion Takes (forms ++ more)
@@ -33,6 +32,12 @@ parts_count : (parts : Parts) → list_all (λ p. is_count p.len) (typed parts) 
 parts_count no_parts = refl
 parts_count (part block disp child rest) = both (is_count (pos block)) (list_all (λ p. is_count p.len) (typed rest)) (count_is block) (parts_count rest)
 
+pub takes_node : (tree : Tree) → Takes (form_of_tree tree)
+takes_node (leaf kind) = refl
+takes_node (vector count block stride child) = counts_are count block
+takes_node (index block places child) = count_is block
+takes_node (group parts) = parts_count parts
+
 mutual
   takes_in : (tree : Tree) → AllByRecursion Takes (forms_in tree)
   takes_in (leaf kind) = tt
@@ -48,7 +53,7 @@ takes_within : (tree : Option Tree) → AllByRecursion Takes (forms_within tree)
 takes_within None = tt
 takes_within (Some tree) = takes_in tree
 
-takes_at : (base : ℤ) (tree : Option Tree) → Takes (form_at base tree)
+pub takes_at : (base : ℤ) (tree : Option Tree) → Takes (form_at base tree)
 takes_at base None = refl
 takes_at base (Some tree) = refl
 

@@ -1,15 +1,14 @@
 -- what the constructors of a tree place
-use Rattle.std.proofs.Common.{◌≡◌, ℕ, ◌+ℤ◌, ◌*ℤ◌, ℤ, pos, Option, None, Some, List, [], ◌∷◌, ◌++◌, map, refl, sym, ap, ◌∙◌, arith, append-nil}
+use Rattle.std.proofs.Common.{◌≡◌, ℕ, ◌+ℤ◌, ◌*ℤ◌, ℤ, pos, Option, None, List, [], ◌∷◌, ◌++◌, map, refl, sym, ap, ◌∙◌, arith}
 use Rattle.std.proofs.lemmas.Int.{ints}
 use Rattle.std.proofs.lemmas.Grind.{flat_map-append}
 use Rattle.std.specs.List.{flat_map}
-use Rattle.dt_kinds.specs.declared.kind.Kind.{Kind}
 use Rattle.dt_form.specs.declared.form.FormOf.{FormOf}
 use Rattle.dt_map.specs.declared.entry.Entry.{Entry}
 use Rattle.dt_map.specs.Bounds.{extent_of}
 use Rattle.dt_map.specs.Constructors.{copies_at}
-use Rattle.dt_map.specs.Placing.{place, placed_marks}
-use Rattle.dt_map.specs.Runs.{natural_extent, placed_at, even, run}
+use Rattle.dt_map.specs.Placing.{place}
+use Rattle.dt_map.specs.Runs.{natural_extent, placed_at, run}
 use Rattle.dt_map.specs.Typemap.{Marked, shift}
 use Rattle.dt_map.proofs.Placings.{shift-shift, shift-append}
 use Rattle.dt_map.proofs.Summaries.{placed_marks-append}
@@ -23,7 +22,10 @@ use Rattle.dt_type.specs.Form.{result_of, map_by, weight_by, depth_by, part_memb
 use Rattle.dt_tree.specs.Tree.{Tree, leaf, vector, index, group, Parts, no_parts, part, flat, flat_parts}
 use Rattle.dt_rebuild.specs.Built.{form_of_tree, type_of_tree, typed}
 
--- entries without marks
+-- entries with marks, and without
+abbrev pub with_marks : List Entry → Option Marks → Marked
+with_marks entries marks = record { entries = entries; marks = marks }
+
 abbrev pub bare : List Entry → Marked
 bare entries = record { entries = entries; marks = None }
 

@@ -6,7 +6,8 @@ use Rattle.dt_form.specs.declared.form.FormOf.TheVariants.{Named, Contiguous, Hv
 use Rattle.dt_form.specs.declared.form.PartOf.{PartOf}
 use Rattle.dt_type.specs.declared.datatype.Seen.{Seen}
 use Rattle.dt_type.specs.Form.{result_of}
-use Rattle.dt_tree.specs.Tree.{Tree, leaf, vector, index, group, Parts, no_parts, part}
+use Rattle.dt_map.specs.Typemap.{Marked, shift}
+use Rattle.dt_tree.specs.Tree.{Tree, leaf, vector, index, group, Parts, no_parts, part, flat}
 
 -- The datatype of a tree, by the constructors that its nodes are called after (MPI 4.1, section 5.1.2).
 
@@ -38,6 +39,11 @@ marked_by marks form = Resized marks.lb (marks.ub -ℤ marks.lb) (result_of form
 abbrev pub built : ℤ → Option Tree → Option Marks → Seen
 built base tree None = result_of (form_at base tree)
 built base tree (Some marks) = result_of (marked_by marks (form_at base tree))
+
+-- what it places, told without constructors (law `built_has_entries`)
+abbrev pub placed_by : ℤ → Option Tree → Option Marks → Marked
+placed_by base None marks = record { entries = []; marks = marks }
+placed_by base (Some tree) marks = record { entries = shift base (flat tree); marks = marks }
 
 -- the constructors that make the datatype of a tree: those of a node's children before the node's, from left to right
 abbrev mutual

@@ -1,6 +1,7 @@
 //! Datatypes made from trees.
 #![tactic(auto)]
 
+pub mod laws;
 mod nodes;
 mod rebuild;
 

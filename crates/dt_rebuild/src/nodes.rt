@@ -18,8 +18,8 @@ fn signed(count: u32) -> i32
     count as i32
 }
 
-#[tactic(auto, using(crate::proofs::Answering::nodes, dt_tree::proofs::Limits::of_vector_fits, dt_tree::proofs::Limits::of_index_fits, dt_tree::proofs::Limits::of_group_fits, dt_tree::proofs::Nodes::nodes))]
 /// The datatype of a node, its children's first and from left to right.
+#[tactic(auto, using(crate::proofs::Answering::nodes))]
 pub(crate) fn type_of(alloc: Global, node: &Node) -> Result<Datatype, CtorFault>
     requires fits { numbers_fit (tree_of node.now) ≡ true }
     ensures { IsAnswerOf (forms_in (tree_of node.now)) (type_of_tree (tree_of node.now)) result }

@@ -1,9 +1,10 @@
 //! The datatype of a tree from a base on, with marks.
-ghost use Rattle.std.specs.Prelude.{None, IsErrOf};
+ghost use Rattle.std.specs.Prelude.{◌≡◌, None, IsErrOf, IfOk};
 ghost use Rattle.std.specs.Option.{option_map};
 ghost use Rattle.dt_map.specs.Limits.{MarksFit};
 ghost use Rattle.dt_rebuild.specs.Answer.{IsAnswerOf};
-ghost use Rattle.dt_rebuild.specs.Built.{all_forms, form_at, built};
+ghost use Rattle.dt_rebuild.specs.Built.{all_forms, form_at, built, placed_by};
+ghost use Rattle.dt_type.specs.Datatype.{typemap_of};
 ghost use Rattle.dt_type.specs.Form.{result_of};
 ghost use Rattle.dt_tree.specs.Node.{tree_of};
 
@@ -39,6 +40,7 @@ pub fn to_type(
 ) -> Result<Datatype, CtorFault>
     requires { MarksFit marks }
     ensures answer { IsAnswerOf (all_forms base (option_map (λ t. tree_of t.now) tree.entry) marks) (built base (option_map (λ t. tree_of t.now) tree.entry) marks) result }
+    ensures typemap { IfOk result (λ t. typemap_of t ≡ placed_by base (option_map (λ t. tree_of t.now) tree.entry) marks) }
     ensures arguments { ¬ IsErrOf result CtorFault.BadArgument }
 {
     let bare = placed(alloc, base, tree)?;

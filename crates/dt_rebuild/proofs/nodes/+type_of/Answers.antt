@@ -1,4 +1,4 @@
-use Rattle.std.proofs.Common.{rules, ◌≡◌, ◌∙◌, sym, ap, ◌+◌, ◌<◌, drop, true, ℤ, to_z, of_z, w32, w64, Err}
+use Rattle.std.proofs.Common.{rules, ◌∙◌, sym, ap}
 use Rattle.dt_tree.specs.declared.node.Node.TheVariants.{Vector, Index, Group}
 use Rattle.dt_tree.specs.Node.{tree_of, trees_of}
 use Rattle.dt_tree.specs.Rule.{depth_of}
