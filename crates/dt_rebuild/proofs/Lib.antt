@@ -1,0 +1,9 @@
+pub mod Answering
+pub mod Around
+pub mod Asking
+pub mod Built
+pub mod Depths
+pub mod Measures
+pub mod Narrow
+pub mod Placing
+pub mod Taking
