@@ -15,7 +15,7 @@ use Rattle.dt_type.specs.Datatype.{entries_of}
 use Rattle.dt_names.specs.declared.stop.Stop.{Stop}
 use Rattle.dt_names.specs.declared.stop.Stop.TheVariants.{Refused, NoMemory}
 use Rattle.dt_names.specs.declared.kept.Kept.{Kept}
-use Rattle.dt_machine.specs.Limits.{most_entries, most_packed}
+use Rattle.dt_machine.specs.declared.limits.TheConstants.{MOST_ENTRIES, MOST_PACKED}
 use Rattle.dt_machine.specs.Operation.{operation_row}
 use Rattle.dt_machine.specs.Outcome.{IsStop}
 use Rattle.dt_machine.specs.Refusal.{conditions, IsRefusedBy, IsAllowed, IsOutside, elements_of}
@@ -41,7 +41,7 @@ envelope_allowed s ty kept is = allowed s (Envelope ty) (is_known s ty kept is, 
 
 -- `map TYPE`
 abbrev HasMany : Kept → Type 0
-HasMany kept = most_entries < length (entries_of kept.ty)
+HasMany kept = MOST_ENTRIES < length (entries_of kept.ty)
 
 pub map_missing : (s : State) (ty : List ℕ) (stop : Stop) → IsMissing s.types ty stop → IsStop s (Map ty) stop
 map_missing s ty = missing s ty (Map ty) (refusal.TooManyEntries when IsSomeAnd (type_of s ty) HasMany ∷ []) (λ _ first. first)
@@ -50,7 +50,7 @@ pub map_too_many : (s : State) (ty : List ℕ) (kept : Kept) → type_of s ty �
 map_too_many s ty kept is many =
     refused s (Map ty) refusal.TooManyEntries (is_known s ty kept is, (is_supported s ty kept is, some_and (type_of s ty) HasMany kept is many))
 
-pub map_allowed : (s : State) (ty : List ℕ) (kept : Kept) → type_of s ty ≡ Some kept → length (entries_of kept.ty) ≤ most_entries → IsAllowed s (Map ty)
+pub map_allowed : (s : State) (ty : List ℕ) (kept : Kept) → type_of s ty ≡ Some kept → length (entries_of kept.ty) ≤ MOST_ENTRIES → IsAllowed s (Map ty)
 map_allowed s ty kept is few =
     let none : ¬ IsSomeAnd (type_of s ty) HasMany = λ h. let many = and_some (type_of s ty) HasMany kept is h in absurd (omega (arith, many, few)) in
     allowed s (Map ty) (is_known s ty kept is, (is_supported s ty kept is, (none, tt)))
@@ -90,7 +90,7 @@ module _ (s : State) (rep : Rep) (count : ℤ) (ty buffer : List ℕ) (origin : 
   IsOut held kept = IsFalse (are_inside (length held) (elements_of kept count origin))
 
   abbrev IsLarge : Kept → Type 0
-  IsLarge kept = most_packed < total rep (elements_of kept count origin)
+  IsLarge kept = MOST_PACKED < total rep (elements_of kept count origin)
 
   -- the buffer stands
   module _ (held : List ℕ) (stands : buffer_of s buffer ≡ Some held) where

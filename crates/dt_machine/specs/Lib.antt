@@ -1,6 +1,5 @@
 pub mod Answers
 pub mod Laws
-pub mod Limits
 pub mod Made
 pub mod Operation
 pub mod Outcome

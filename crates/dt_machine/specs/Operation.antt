@@ -6,12 +6,12 @@ use Rattle.dt_map.specs.Packed.{total}
 use Rattle.dt_reply.specs.declared.refusal.Refusal.TheVariants.{BadArgument, Outside, TooLarge}
 use Rattle.dt_type.specs.declared.datatype.Seen.{Seen}
 use Rattle.dt_type.specs.Datatype.{typemap_of}
-use Rattle.dt_machine.specs.Limits.{most_packed}
+use Rattle.dt_machine.specs.declared.limits.TheConstants.{MOST_PACKED}
 use Rattle.dt_machine.specs.Row.{Row, ◌when◌}
 
 abbrev pub operation_row : Rep → ℤ → Seen → ℕ → ℤ → Row
 operation_row rep count ty len origin =
     BadArgument when IsTrue (int_lt count (pos 0))
     ∷ Outside when IsFalse (are_inside len (elements (typemap_of ty) (nat_abs count) origin))
-    ∷ TooLarge when (most_packed < total rep (elements (typemap_of ty) (nat_abs count) origin))
+    ∷ TooLarge when (MOST_PACKED < total rep (elements (typemap_of ty) (nat_abs count) origin))
     ∷ []

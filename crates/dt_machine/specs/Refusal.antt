@@ -19,7 +19,7 @@ use Rattle.dt_form.specs.Contents.{old_at}
 use Rattle.dt_type.specs.Datatype.{typemap_of, entries_of, form_of}
 use Rattle.dt_form.specs.Form.{olds_of}
 use Rattle.dt_names.specs.declared.kept.Kept.{Kept}
-use Rattle.dt_machine.specs.Limits.{most_types, most_made, most_buffers, largest_buffer, most_bytes, most_entries, most_packed}
+use Rattle.dt_machine.specs.declared.limits.TheConstants.{MOST_TYPES, MOST_MADE, MOST_BUFFERS, LARGEST_BUFFER, MOST_BYTES, MOST_ENTRIES, MOST_PACKED}
 use Rattle.dt_machine.specs.Made.{IsFaultIn}
 use Rattle.dt_machine.specs.Row.{Row, ◌when◌, condition}
 use Rattle.dt_machine.specs.State.{State, type_of, buffer_of, is_unknown, is_basic_word, is_type_taken, is_buffer_taken, bytes_held}
@@ -33,7 +33,7 @@ IsNegativeFill (Hex bytes) = ⊥
 
 -- more bytes than one buffer may have, or all together
 abbrev pub IsTooLarge : State → ℕ → Type 0
-IsTooLarge s len = (largest_buffer < len) ⊎ (most_bytes < bytes_held s + len)
+IsTooLarge s len = (LARGEST_BUFFER < len) ⊎ (MOST_BYTES < bytes_held s + len)
 
 -- the elements of an operation on a type that stands
 abbrev pub elements_of : Kept → ℤ → ℤ → List Entry
@@ -46,7 +46,7 @@ IsOutside s ty buffer count origin =
 
 -- no more types may stand, or be made
 abbrev pub NoMoreTypes : State → Type 0
-NoMoreTypes s = (most_types ≤ length s.types) ⊎ (most_made ≤ s.made)
+NoMoreTypes s = (MOST_TYPES ≤ length s.types) ⊎ (MOST_MADE ≤ s.made)
 
 -- a type that stands is derived, and has no old type of that number
 abbrev pub LacksChild : State → List ℕ → ℤ → Type 0
@@ -83,13 +83,13 @@ conditions s (Commit ty) = type_row s ty []
 conditions s (Free ty) = type_row s ty (BasicType when IsTrue (is_basic_word s ty) ∷ [])
 conditions s (Info ty) = type_row s ty []
 conditions s (Map ty) =
-    type_row s ty (TooManyEntries when IsSomeAnd (type_of s ty) (λ kept. most_entries < length (entries_of kept.ty)) ∷ [])
+    type_row s ty (TooManyEntries when IsSomeAnd (type_of s ty) (λ kept. MOST_ENTRIES < length (entries_of kept.ty)) ∷ [])
 conditions s (Envelope ty) = type_row s ty []
 conditions s (Contents ty) = type_row s ty (NamedType when IsTrue (is_basic_word s ty) ∷ [])
 conditions s (Buffer name fill) =
     NameTaken when IsTrue (is_buffer_taken s name)
     ∷ BadArgument when IsNegativeFill fill
-    ∷ TooManyNames when (most_buffers ≤ length s.buffers)
+    ∷ TooManyNames when (MOST_BUFFERS ≤ length s.buffers)
     ∷ TooLarge when IsTooLarge s (length (bytes_of fill))
     ∷ []
 conditions s (Show buffer) = UnknownName when IsTrue (is_none (buffer_of s buffer)) ∷ []
@@ -98,7 +98,7 @@ conditions s (Bytes rep count ty buffer origin) =
     ∷ UnsupportedKind when IsTrue (is_left_out ty)
     ∷ BadArgument when IsTrue (int_lt count (pos 0))
     ∷ Outside when IsOutside s ty buffer count origin
-    ∷ TooLarge when IsSomeAnd (type_of s ty) (λ kept. most_packed < total rep (elements_of kept count origin))
+    ∷ TooLarge when IsSomeAnd (type_of s ty) (λ kept. MOST_PACKED < total rep (elements_of kept count origin))
     ∷ []
 
 -- the condition of a refusal holds of a command

@@ -5,7 +5,7 @@ mod bytes;
 mod define;
 mod fill;
 pub mod laws;
-mod limits;
+pub mod limits;
 pub mod machine;
 mod names;
 mod outcome;

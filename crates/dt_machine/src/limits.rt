@@ -1,22 +1,22 @@
 //! How much may stand, and how much a reply may tell.
 
 /// So many types may stand.
-pub(crate) const MOST_TYPES: usize = 1024;
+pub const MOST_TYPES: usize = 1024;
 
 /// So many types may be made, freed ones too.
-pub(crate) const MOST_MADE: u64 = u64::MAX;
+pub const MOST_MADE: u64 = u64::MAX;
 
 /// So many buffers may stand.
-pub(crate) const MOST_BUFFERS: usize = 256;
+pub const MOST_BUFFERS: usize = 256;
 
 /// So many bytes one buffer may have.
-pub(crate) const LARGEST_BUFFER: usize = 16_777_216;
+pub const LARGEST_BUFFER: usize = 16_777_216;
 
 /// So many bytes all buffers together may have.
-pub(crate) const MOST_BYTES: u64 = 67_108_864;
+pub const MOST_BYTES: u64 = 67_108_864;
 
 /// So many entries a reply lists.
-pub(crate) const MOST_ENTRIES: u64 = 4096;
+pub const MOST_ENTRIES: u64 = 4096;
 
 /// So many packed bytes a reply prints.
-pub(crate) const MOST_PACKED: u128 = 16_777_216;
+pub const MOST_PACKED: u128 = 16_777_216;

@@ -1,6 +1,7 @@
 -- What the program answers.
 use Rattle.std.specs.Prelude.{◌≡◌, ℕ, ◌≤◌, Bool, true, false, List, [], ◌∷◌, ◌++◌, length, Option, Some, IfSome, MatchOption, codes}
 use Rattle.std.specs.Str.{bytes_eq}
+use Rattle.dt_base.specs.declared.source.TheConstants.{READ_MAX}
 use Rattle.dt_base.specs.Counter.{counted}
 use Rattle.dt_machine.specs.Answers.{Run, Answers, text_of_all}
 use Rattle.dt_script.specs.Lines.{script_lines}
@@ -78,7 +79,7 @@ TookTooMany before now = now ≡ counted before 16777217
 
 -- a source ends within the limit, by its bytes where it tells them, and else by its count of bytes taken
 abbrev pub EndsWithinLimit : Option (List ℕ) → ℕ → ℕ → Type 0
-EndsWithinLimit left before now = MatchOption left (¬ TookTooMany before now) (λ input. length input ≤ 16777216)
+EndsWithinLimit left before now = MatchOption left (¬ TookTooMany before now) (λ input. length input ≤ READ_MAX)
 
 -- the answers that are left where nothing fails outside
 abbrev pub IsAnswerOrNoMemory : Status → Type 0
