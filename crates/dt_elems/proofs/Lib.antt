@@ -1,3 +1,5 @@
 pub mod Appending
+pub mod Cuts
 pub mod Inside
 pub mod Places
+pub mod Receiving
