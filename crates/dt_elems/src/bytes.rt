@@ -16,7 +16,7 @@ use dt_type::Datatype;
 use std::alloc::Global;
 
 /// Where an entry that is moved on begins in a buffer of so many bytes, in which it lies.
-fn start_of(entry: Entry, at: i128, len: usize) -> usize
+pub(crate) fn start_of(entry: Entry, at: i128, len: usize) -> usize
     requires near { IsPlace at }
     requires inside { IsTrue (lies_inside len (shift_entry at entry)) }
     ensures value { result ≡ nat_abs (entry.disp +ℤ at) }

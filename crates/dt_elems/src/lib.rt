@@ -1,9 +1,14 @@
-//! Tests on the elements of an operation, by the bounds of its type alone, and their packed bytes.
+//! Tests on the elements of an operation, their packed bytes, and counts of received bytes.
 #![tactic(auto)]
 
 mod bytes;
+mod counts;
+pub mod laws;
+mod overlap;
 mod place;
 mod span;
 
 pub use bytes::packed_bytes;
+pub use counts::{whole_copies, whole_elements};
+pub use overlap::overlaps;
 pub use span::{packed_size, span_inside};

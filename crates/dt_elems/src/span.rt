@@ -45,7 +45,7 @@ pub fn span_inside(ty: &Datatype, count: u32, origin: i64, len: usize) -> bool
 }
 
 /// How many bytes the elements of one copy have in a representation.
-fn copy_size(ty: &Datatype, rep: Rep) -> u64
+pub(crate) fn copy_size(ty: &Datatype, rep: Rep) -> u64
     ensures { result ≡ total rep (entries_of ty.now) }
 {
     match rep {
