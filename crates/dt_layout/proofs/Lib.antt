@@ -1,0 +1,10 @@
+pub mod All
+pub mod Arms
+pub mod Assembly
+pub mod Bodies
+pub mod Copies
+pub mod Levels
+pub mod PartLists
+pub mod Programs
+pub mod Spelled
+pub mod Weights

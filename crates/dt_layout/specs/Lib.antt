@@ -1,0 +1,4 @@
+pub mod Body
+pub mod Code
+pub mod Program
+pub mod Written
