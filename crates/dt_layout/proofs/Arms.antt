@@ -1,7 +1,7 @@
 -- The body of a datatype, by its shape.
 use Rattle.std.specs.Prelude.{◌≡◌, ℕ, ◌+◌, ◌*◌, ◌^◌, ◌<◌, ◌≤◌, ℤ, pos, List, [], ◌∷◌, ◌++◌, map, length}
 use Rattle.std.specs.List.{AllByRecursion, sum_by}
-use Rattle.std.proofs.Common.{sym, ap, subst, ◌∙◌, arith, length-append}
+use Rattle.std.proofs.Common.{sym, ap, subst, ◌∙◌, arith, append-nil, length-append}
 use Rattle.std.proofs.lemmas.Int.{ints}
 use Rattle.std.proofs.lemmas.List.Folds.{flat_map-map}
 use Rattle.std.proofs.lemmas.List.Sums.{sum_by-cons}
@@ -14,13 +14,15 @@ use Rattle.dt_map.specs.Typemap.{Marked, shift}
 use Rattle.dt_map.proofs.Copies.{total-shift}
 use Rattle.dt_offsets.specs.declared.turns.Spot.{Spot}
 use Rattle.dt_offsets.specs.declared.turns.Turns.{Turns}
-use Rattle.dt_offsets.specs.Near.{IsSpot}
-use Rattle.dt_offsets.specs.Offsets.{grid_offsets, spot_offsets}
+use Rattle.dt_offsets.specs.Near.{AreTurns, IsSpot}
+use Rattle.dt_offsets.specs.Offsets.{turn_offsets, grid_offsets, spot_offsets, row_offsets}
+use Rattle.dt_offsets.proofs.Lookups.{sums-zero}
+use Rattle.dt_layout.proofs.PartLists.{placed_more}
 use Rattle.dt_type.specs.declared.datatype.Seen.{Seen}
 use Rattle.dt_type.specs.declared.shape.ShapeOf.{ShapeOf}
 use Rattle.dt_type.specs.declared.shape.ShapeOf.TheVariants.{One, Grid, Each, Seq}
 use Rattle.dt_type.specs.declared.shape.ShapePartOf.{ShapePartOf}
-use Rattle.dt_type.specs.Conditions.{HasNumbers}
+use Rattle.dt_type.specs.Conditions.{AreNested, HasNumbers}
 use Rattle.dt_type.specs.Datatype.{entries_of, typemap_of, form_of, weight_of, depth_of}
 use Rattle.dt_type.specs.Form.{result_of, deepest}
 use Rattle.dt_type.specs.Listing.{entries_at}
@@ -34,7 +36,7 @@ use Rattle.dt_layout.specs.Program.{spelling}
 use Rattle.dt_layout.specs.Written.{nest, is_loop, copies_under, AreLevels, IsWritten, AreWritten}
 use Rattle.dt_layout.proofs.Bodies.{size_is_total, width-nest, opened-nest, meaning-nest, meaning-each, IsLawfulIfClose, lawful-under, lawful-each}
 use Rattle.dt_layout.proofs.Copies.{copies_at_none, grid_of_grids, total_copies}
-use Rattle.dt_layout.proofs.Levels.{deeper_levels, some_one}
+use Rattle.dt_layout.proofs.Under.{deeper_levels, some_one}
 use Rattle.dt_layout.proofs.Weights.{weighs, lies, has_levels, IsHandy}
 
 -- the body of a datatype alone
@@ -52,12 +54,11 @@ written_under levels t old new core are is told = record {
   lawful = lawful-under levels core (entries_of t) are.turns are.offsets is.means is.lawful;
   short = let short = is.short in omega (arith, short, width-nest levels core);
   shallow = let shallow = is.shallow in omega (arith, shallow, opened-nest levels core);
-  looped = loops levels;
 }
-  where
-    loops : (ts : List Turns) → 0 < length ts → is_loop (nest ts core)
-    loops [] some = absurd (omega arith)
-    loops (t ∷ ts) some = tt
+
+pub nest_loops : (ts : List Turns) (body : Body) → 0 < length ts → is_loop (nest ts body)
+nest_loops [] body some = absurd (omega arith)
+nest_loops (t ∷ ts) body some = tt
 
 both : (a b c d : ℕ) → a ≡ c → b ≡ d → (let s : Sizes = record { native = a; ext = b } in s) ≡ record { native = c; ext = d }
 both a b c d e f = cc
@@ -146,37 +147,47 @@ module _ (t : Seen) (s : ShapeOf Seen) (made : t ≡ result_of (form_of t)) (goe
       each_below [] h = tt
       each_below (p ∷ ps) h = (h.0, each_below ps h.1)
 
-  -- nested turns around an old type join those that stand
-  entries_grid : (turns : List Turns) (old : Seen) → s ≡ Grid turns old → entries_of t ≡ entries_at (grid_offsets turns) (entries_of old)
+  -- an old type that is placed by nested turns, which join those that stand
+  module _ (levels turns : List Turns) (old : Seen) (entries : entries_of t ≡ entries_at (grid_offsets turns) (entries_of old)) where
+    pub inner_levels : AllByRecursion AreTurns turns → AreNested turns → IsHandy t → IsHandy old → AreLevels levels t → AreLevels (levels ++ turns) old
+    inner_levels turned nested handy handy_old are = deeper_levels levels turns t old are turned nested handy.fits handy_old.fits entries
+
+    pub inner_written : (before after : List Instr) (body : Body) → olds_of s ≡ old ∷ [] → items_of s ≡ length turns → length turns ≤ form.levels_of (form_of t) → IsWritten (levels ++ turns) old before after body
+        → IsWritten levels t before after body
+    inner_written before after body olds items few written =
+        let weight = weighs t s made goes in
+        let depth = lies t s made goes in
+        let old_weight = ap (sum_by weight_of) olds ∙ sum_by-cons weight_of old [] in
+        let old_depth = ap deepest olds in
+        let short = written.short in
+        let shallow = written.shallow in
+        let long = length-append levels turns in
+        record {
+          spelled = written.spelled;
+          means = λ x. written.means x ∙ ap (shift x) (grid_of_grids levels turns (entries_of old) ∙ ap (entries_at (grid_offsets levels)) (sym entries));
+          lawful = written.lawful;
+          short = omega (arith, short, weight, items, old_weight, long);
+          shallow = omega (arith, shallow, depth, few, old_depth, long);
+        }
+
+  pub entries_grid : (turns : List Turns) (old : Seen) → s ≡ Grid turns old → entries_of t ≡ entries_at (grid_offsets turns) (entries_of old)
   entries_grid turns old is =
       sym placed ∙ ap (λ (s : ShapeOf Seen). (placed_by s).entries) is
       ∙ flat_map-map (λ (member : ℤ × Marked). shift member.0 member.1.entries) (λ x. (x, typemap_of old)) (grid_offsets turns)
 
-  pub grid_levels : (levels turns : List Turns) (old : Seen) → s ≡ Grid turns old → IsHandy t → IsHandy old → AreLevels levels t → AreLevels (levels ++ turns) old
-  grid_levels levels turns old is handy handy_old are =
-      let numbers = subst HasNumbers is goes.numbers in
-      deeper_levels levels turns t old are numbers.0 numbers.1 handy.fits handy_old.fits (entries_grid turns old is)
+  pub few_grid : (turns : List Turns) (old : Seen) → s ≡ Grid turns old → length turns ≤ form.levels_of (form_of t)
+  few_grid turns old is = subst (λ s. levels_of s ≤ form.levels_of (form_of t)) is (has_levels t s made goes).1
 
-  pub grid_written : (levels turns : List Turns) (old : Seen) (before after : List Instr) (body : Body) → s ≡ Grid turns old → IsWritten (levels ++ turns) old before after body → (0 < length levels → 0 < length (levels ++ turns))
-      → IsWritten levels t before after body
-  grid_written levels turns old before after body is written longer =
-      let weight = weighs t s made goes in
-      let depth = lies t s made goes in
-      let items = ap items_of is in
-      let old_weight = ap (λ s. sum_by weight_of (olds_of s)) is ∙ sum_by-cons weight_of old [] in
-      let old_depth = ap (λ s. deepest (olds_of s)) is in
-      let few = grid_few turns old is in
-      let short = written.short in
-      let shallow = written.shallow in
-      let long = length-append levels turns in
-      record {
-        spelled = written.spelled;
-        means = λ x. written.means x ∙ ap (shift x) (grid_of_grids levels turns (entries_of old) ∙ ap (entries_at (grid_offsets levels)) (sym (entries_grid turns old is)));
-        lawful = written.lawful;
-        short = omega (arith, short, weight, items, old_weight, long);
-        shallow = omega (arith, shallow, depth, few, old_depth, long);
-        looped = λ some. written.looped (longer some);
-      }
-    where
-      grid_few : (turns : List Turns) (old : Seen) → s ≡ Grid turns old → length turns ≤ form.levels_of (form_of t)
-      grid_few turns old is = subst (λ s. levels_of s ≤ form.levels_of (form_of t)) is (has_levels t s made goes).1
+  -- a single row of copies
+  pub entries_spot : (spot : Spot) (row : Turns) (old : Seen) → s ≡ Each (spot ∷ []) old → turn_offsets row ≡ row_offsets spot.first spot.copies spot.step → entries_of t ≡ entries_at (grid_offsets (row ∷ [])) (entries_of old)
+  entries_spot spot row old is offsets =
+      entries_each (spot ∷ []) old is
+      ∙ ap (λ ys. entries_at ys (entries_of old)) (append-nil (row_offsets spot.first spot.copies spot.step) ∙ sym offsets ∙ sym (sums-zero (turn_offsets row)))
+
+  pub entries_part : (p : ShapePartOf Seen) (row : Turns) → s ≡ Seq (p ∷ []) → turn_offsets row ≡ row_offsets p.first p.copies p.step → entries_of t ≡ entries_at (grid_offsets (row ∷ [])) (entries_of p.old)
+  entries_part p row is offsets =
+      sym placed ∙ ap (λ (s : ShapeOf Seen). (placed_by s).entries) is ∙ placed_more [] p
+      ∙ ap (λ ys. entries_at ys (entries_of p.old)) (sym offsets ∙ sym (sums-zero (turn_offsets row)))
+
+  pub few_one : 1 ≤ form.levels_of (form_of t)
+  few_one = (has_levels t s made goes).0

@@ -1,7 +1,7 @@
 -- The instructions of a datatype, put together.
 use Rattle.std.specs.Prelude.{◌≡◌, ℕ, zero, suc, ◌+◌, ◌*◌, ◌<◌, ◌≤◌, List, [], ◌∷◌, ◌++◌, map, length, take, set, replicate, get_or}
 use Rattle.std.specs.List.{flat_map}
-use Rattle.std.proofs.Common.{sym, ap, ◌∙◌, arith, append_assoc, length-append}
+use Rattle.std.proofs.Common.{refl, sym, ap, ◌∙◌, arith, append_assoc, length-append}
 use Rattle.std.proofs.lemmas.Grind.{replicate_next}
 use Rattle.std.proofs.lemmas.List.{length-map, length-replicate, take_more}
 use Rattle.std.proofs.Math.Nat.{mul-pos}
@@ -23,9 +23,9 @@ use Rattle.dt_layout.specs.declared.instr.Instr.TheVariants as variants
 use Rattle.dt_layout.specs.declared.instr.Sizes.{Sizes}
 use Rattle.dt_layout.specs.Body.{Body, one, each, seq, Parts, sizes_of, number_of}
 use Rattle.dt_layout.specs.Program.{spelling, spellings}
-use Rattle.dt_layout.specs.Written.{nest, AreLevels, IsWritten}
-use Rattle.dt_layout.proofs.Arms.{IsCore, totals, sizes_told, written_under}
-use Rattle.dt_layout.proofs.Levels.{length-copies}
+use Rattle.dt_layout.specs.Written.{nest, is_loop, AreLevels, IsWritten}
+use Rattle.dt_layout.proofs.Arms.{IsCore, totals, sizes_told, written_under, nest_loops}
+use Rattle.dt_layout.proofs.Under.{length-copies}
 use Rattle.dt_layout.proofs.PartLists.{row_of, part_listed}
 use Rattle.dt_type.proofs.Lookups.{part_entries, entries-parts}
 use Rattle.dt_layout.proofs.Spelled.{each_sealed, seq_sealed}
@@ -82,11 +82,11 @@ module _ (old opened : List Instr) (n levels : ℕ) (same : n ≡ levels + 1) (o
 pub finished : (levels ls : List Turns) (t : Seen) (old mid new : List Instr) (start : ℕ) (sizes : Sizes) (core : Body) → ls ≡ levels → AreLevels levels t → IsCore t core → start ≡ length old
     → mid ≡ old ++ (kept (length levels) ++ spelling (length old + length levels) core) → sizes ≡ totals (entries_of t)
     → ((before : List Instr) → (body : Body) → start ≡ length before → mid ≡ before ++ (kept (length ls) ++ spelling (length before + length ls) body) → sizes ≡ sizes_of body → new ≡ before ++ spelling (length before) (nest ls body))
-    → (body : Body) × IsWritten levels t old new body
+    → (body : Body) × IsWritten levels t old new body × (0 < length levels → is_loop body)
 finished levels ls t old mid new start sizes core same are is begins told sized closes =
     let whole : mid ≡ old ++ (kept (length ls) ++ spelling (length old + length ls) core) = told ∙ ap (λ ts. old ++ (kept (length ts) ++ spelling (length old + length ts) core)) (sym same) in
     let done = closes old core begins whole (sized ∙ sizes_told (entries_of t) core is.means) in
-    (nest levels core, written_under levels t old new core are is (done ∙ ap (λ ts. old ++ spelling (length old) (nest ts core)) same))
+    (nest levels core, written_under levels t old new core are is (done ∙ ap (λ ts. old ++ spelling (length old) (nest ts core)) same), nest_loops levels core)
 
 -- a part of a shape: it is less deep, has entries where it has copies of some, and no more bytes than all
 module _ (shapes : List (ShapePartOf Seen)) (i : ℕ) (p : ShapePartOf Seen) (lt : i < length shapes) (is : p ≡ get_or shapes i p) where
@@ -111,3 +111,9 @@ part_some p copies some =
     let long = length-copies (row_of p) (entries_of p.old) ∙ ap (λ n. n * length (entries_of p.old)) (count-row p.first p.step p.copies) in
     let more : 0 < p.copies * length (entries_of p.old) = mul-pos copies some in
     omega (arith, long, more)
+
+-- a list of one
+pub single : {A : Type 0} (xs : List A) (d : A) → length xs ≡ 1 → xs ≡ get_or xs 0 d ∷ []
+single [] d e = absurd (omega (arith, e))
+single (x ∷ []) d e = refl
+single (x ∷ y ∷ xs) d e = absurd (omega (arith, e))

@@ -3,8 +3,10 @@ pub mod Arms
 pub mod Assembly
 pub mod Bodies
 pub mod Copies
-pub mod Levels
 pub mod PartLists
 pub mod Programs
 pub mod Spelled
+pub mod Standing
+pub mod Steps
+pub mod Under
 pub mod Weights

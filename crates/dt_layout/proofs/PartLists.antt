@@ -23,7 +23,7 @@ use Rattle.dt_layout.specs.Program.{spelling, spellings, IsLawful, AreLawful}
 use Rattle.dt_layout.specs.Written.{is_loop, AreClose, IsWritten, AreWritten}
 use Rattle.dt_layout.proofs.All.{all_split}
 use Rattle.dt_layout.proofs.Bodies.{length-spellings}
-use Rattle.dt_layout.proofs.Levels.{length-copies, copies_of_row}
+use Rattle.dt_layout.proofs.Under.{length-copies, copies_of_row}
 
 abbrev pub add_part : Parts → Turns → Body → Parts
 add_part no_parts t body = part t body no_parts

@@ -26,7 +26,7 @@ use Rattle.dt_layout.specs.Program.{spelling, IsProgram, StandsFor}
 use Rattle.dt_layout.specs.Written.{AreClose, copies_under, AreLevels, IsWritten}
 use Rattle.dt_layout.proofs.Bodies.{size_is_total, length-spelling}
 use Rattle.dt_layout.proofs.Copies.{shift_none}
-use Rattle.dt_layout.proofs.Levels.{length-copies, copies_of_row, row_level}
+use Rattle.dt_layout.proofs.Under.{length-copies, copies_of_row, row_level}
 use Rattle.dt_layout.proofs.Weights.{whole_handy}
 
 -- the elements of an operation from 0 on are copies in a row

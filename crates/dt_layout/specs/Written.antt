@@ -52,7 +52,6 @@ pub record IsWritten (levels : List Turns) (t : Seen) (old new : List Instr) (bo
   pub lawful : (x : ℤ) → AreClose (meaning body x) → IsLawful body x
   pub short : width body ≤ 2 * length levels + 3 * weight_of t
   pub shallow : opened body + 1 ≤ length levels + 2 * depth_of t
-  pub looped : 0 < length levels → is_loop body
 
 -- the bodies of parts are appended, each with its turns
 pub record AreWritten (shapes : List (ShapePartOf Seen)) (old new : List Instr) (parts : Parts) : Type 0 where

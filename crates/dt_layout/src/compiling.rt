@@ -8,8 +8,9 @@ ghost use Rattle.dt_map.specs.Packed.{total};
 ghost use Rattle.dt_type.specs.Datatype.{typemap_of, entries_of, weight_of};
 
 use crate::instr::Instr;
+use crate::levels::{deepened, row};
 use crate::program::Program;
-use crate::write::{one_level, row, write};
+use crate::write::write;
 use dt_kinds::NoMemory;
 use dt_type::Datatype;
 use std::alloc::Global;
@@ -48,6 +49,6 @@ pub fn compile(alloc: Global, ty: &Datatype, count: u32) -> Result<Program, NoMe
     let _depth = ty.depth();
     let mut code = Vec::new(alloc);
     let copies = row(0, count, ty.extent());
-    write(alloc, &mut code, one_level(alloc, copies)?, ty)?;
+    write(alloc, &mut code, deepened(Vec::new(alloc), &copies)?, ty)?;
     Ok(Program::of(code))
 }

@@ -4,6 +4,9 @@
 pub mod code;
 mod compiling;
 pub mod instr;
+pub mod laws;
+mod levels;
+mod merging;
 mod places;
 pub mod program;
 mod write;

@@ -2,7 +2,7 @@
 ghost use Rattle.std.specs.Prelude.{◌≡◌, ◌<◌, ◌≤◌, ◌++◌, [], ◌∷◌, length, IfOk, OnOk, IsTrue, ◌↔◌};
 ghost use Rattle.dt_kinds.specs.declared.kind.Rep.TheVariants as reps;
 ghost use Rattle.dt_layout.specs.Body.{Body};
-ghost use Rattle.dt_layout.specs.Written.{AreLevels, IsWritten};
+ghost use Rattle.dt_layout.specs.Written.{is_loop, AreLevels, IsWritten};
 ghost use Rattle.dt_map.specs.Packed.{total};
 ghost use Rattle.dt_offsets.specs.Offsets.{grid_offsets, row_offsets, turn_offsets};
 ghost use Rattle.dt_type.specs.Conditions.{IsShapePart};
@@ -10,6 +10,7 @@ ghost use Rattle.dt_offsets.specs.Near.{AreTurns, IsFactor};
 ghost use Rattle.dt_type.specs.Datatype.{entries_of};
 
 use crate::instr::{Instr, Sizes};
+use crate::levels::{deepened, deeper, one_level, row, settled};
 use crate::places::{close, open, push_spots, seal};
 use dt_kinds::{NoMemory, Rep};
 use dt_type::{Datatype, ShapeOf, ShapePart, Spot, Turns};
@@ -27,45 +28,11 @@ pub(crate) fn sizes_by(ty: &Datatype) -> Sizes
     }
 }
 
-/// Copies in a row, as turns.
-pub(crate) fn row(first: i128, copies: u32, step: i128) -> Turns
-    requires first { IsFactor first }
-    requires step { IsFactor step }
-    ensures offsets { turn_offsets result ≡ row_offsets first copies step }
-    ensures numbers { AreTurns result }
-{
-    Turns {
-        first,
-        count: u64::from(copies),
-        block: 1,
-        jump: step,
-        step: 0,
-    }
-}
-
 /// Whether a part places entries.
 fn has_entries(part: &ShapePart) -> bool
     ensures { IsTrue result ↔ (0 < part.now.copies) × (0 < length (entries_of part.now.old)) }
 {
     part.copies > 0 && part.old.bounds().elements > 0
-}
-
-/// One level of turns.
-pub(crate) fn one_level(alloc: Global, turns: Turns) -> Result<Vec<Turns>, NoMemory>
-    ensures { IfOk result (λ levels. levels.items ≡ turns ∷ []) }
-{
-    let mut levels = Vec::new(alloc);
-    levels.push(turns)?;
-    Ok(levels)
-}
-
-/// More levels, inside of those that stand.
-fn deeper(levels: Vec<Turns>, turns: &[Turns]) -> Result<Vec<Turns>, NoMemory>
-    ensures { IfOk result (λ all. all.items ≡ levels.items ++ turns.now) }
-{
-    let mut levels = levels;
-    levels.extend_from_slice(turns)?;
-    Ok(levels)
 }
 
 /// Appends the body of a datatype with entries, under levels of turns.
@@ -76,7 +43,7 @@ pub(crate) fn write(
     ty: &Datatype,
 ) -> Result<(), NoMemory>
     requires { AreLevels levels.items ty.now }
-    ensures { OnOk result ((body : Body) × IsWritten levels.items ty.now out.old.items out.new.items body) }
+    ensures { OnOk result ((body : Body) × IsWritten levels.items ty.now out.old.items out.new.items body × (0 < length levels.items → is_loop body)) }
 {
     let start = out.len();
     match ty.shape() {
@@ -85,12 +52,19 @@ pub(crate) fn write(
             Ok(())
         }
         ShapeOf::One(kind) => {
+            let levels = settled(levels)?;
             open(out, levels.len())?;
             out.push(Instr::One(*kind))?;
             close(out, start, &levels, sizes_by(ty))?;
             Ok(())
         }
         ShapeOf::Each { spots, old } => {
+            if spots.len() == 1 {
+                let spot = spots.as_slice()[0];
+                let turns = row(spot.first, spot.copies, spot.step);
+                write(alloc, out, deepened(levels, &turns)?, old)?;
+                return Ok(());
+            }
             open(out, levels.len() + 1)?;
             push_spots(out, spots.as_slice())?;
             write(alloc, out, Vec::new(alloc), old)?;
@@ -105,6 +79,12 @@ pub(crate) fn write(
             Ok(())
         }
         ShapeOf::Seq { parts } => {
+            if parts.len() == 1 {
+                let part = &parts.as_slice()[0];
+                let turns = row(part.first, part.copies, part.step);
+                write(alloc, out, deepened(levels, &turns)?, &part.old)?;
+                return Ok(());
+            }
             open(out, levels.len() + 1)?;
             let mut written = 0;
             'parts: for part in parts.as_slice() {

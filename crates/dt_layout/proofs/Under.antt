@@ -1,8 +1,9 @@
 -- Nested turns under which datatypes are written, and the offsets that they give.
 use Rattle.std.specs.Prelude.{◌≡◌, ℕ, zero, suc, ◌*◌, ◌^◌, ◌<◌, ◌≤◌, ℤ, pos, ◌+ℤ◌, nat_abs, List, [], ◌∷◌, ◌++◌, length, take}
 use Rattle.std.specs.List.{AllByRecursion}
-use Rattle.std.proofs.Common.{sym, ap, subst, ◌∙◌, arith}
+use Rattle.std.proofs.Common.{sym, ap, subst, ◌∙◌, arith, append-nil}
 use Rattle.std.proofs.lemmas.Int.{ints}
+use Rattle.std.proofs.Math.Nat.{mul_comm}
 use Rattle.dt_kinds.specs.Displacement.{FitsDisp}
 use Rattle.dt_map.specs.declared.entry.Entry.{Entry}
 use Rattle.dt_map.specs.Bounds.{size_of}
@@ -15,11 +16,14 @@ use Rattle.dt_offsets.proofs.GridAt.{pos_right}
 use Rattle.dt_offsets.proofs.Lookups.{sums-zero}
 use Rattle.dt_offsets.proofs.NearNumbers.{all_append}
 use Rattle.dt_type.specs.declared.datatype.Seen.{Seen}
-use Rattle.dt_type.specs.Conditions.{AreShapeTurns, AreNested}
+use Rattle.dt_type.specs.Conditions.{AreNested}
 use Rattle.dt_type.specs.Datatype.{entries_of}
 use Rattle.dt_type.specs.Listing.{entries_at, HaveDisps}
-use Rattle.dt_type.proofs.ShapeNumbers.{all_more, grid_turns}
-use Rattle.dt_layout.specs.Written.{AreClose, GiveOffsets, copies_under, AreLevels}
+use Rattle.dt_type.proofs.ShapeNumbers.{all_more}
+use Rattle.dt_layout.specs.Written.{AreClose, GiveOffsets, copies_under, AreLevels, IsWritten}
+use Rattle.dt_layout.specs.Body.{Body}
+use Rattle.dt_layout.specs.declared.instr.Instr.{Instr}
+use Rattle.dt_layout.specs.Merging.{StandIn}
 use Rattle.dt_layout.proofs.All.{all_sums, all_zip}
 use Rattle.dt_layout.proofs.Copies.{copies_at_none, grid_of_grids, IsPlace, close_place, close_copies, close_places}
 
@@ -86,15 +90,15 @@ pub some_one : (ys : List ℤ) (es : List Entry) → 0 < length (entries_at ys e
 some_one ys es some = let e = length-copies ys es in pos_right (length ys) (length es) (omega arith)
 
 -- levels under which a datatype is written, that were those of another one that places it by nested turns
-pub deeper_levels : (levels turns : List Turns) (t old : Seen) → AreLevels levels t → AllByRecursion AreShapeTurns turns → AreNested turns → HaveDisps (entries_of t) → HaveDisps (entries_of old)
+pub deeper_levels : (levels turns : List Turns) (t old : Seen) → AreLevels levels t → AllByRecursion AreTurns turns → AreNested turns → HaveDisps (entries_of t) → HaveDisps (entries_of old)
     → entries_of t ≡ entries_at (grid_offsets turns) (entries_of old) → AreLevels (levels ++ turns) old
-deeper_levels levels turns t old are shape nested fits fits_old placed =
+deeper_levels levels turns t old are turned nested fits fits_old placed =
     let es = entries_of old in
     let same : copies_under levels t ≡ copies_under (levels ++ turns) old = ap (entries_at (grid_offsets levels)) placed ∙ sym (grid_of_grids levels turns es) in
     let some_t : 0 < length (entries_of t) = some_one (grid_offsets levels) (entries_of t) are.some in
     let some_old : 0 < length es = some_one (grid_offsets turns) es (subst (λ s. 0 < length s) placed some_t) in
     record {
-      turns = all_append AreTurns levels turns are.turns (grid_turns turns shape);
+      turns = all_append AreTurns levels turns are.turns turned;
       some = subst (λ s. 0 < length s) same are.some;
       small = subst (λ s. size_of s ≤ 2 ^ 62) same are.small;
       offsets = λ x close.
@@ -134,3 +138,35 @@ row_level turns t ys is are fits some small =
           gives_one turns x (all_more (λ y. IsPlace (x +ℤ y)) (λ y. IsNearOffset (x +ℤ y)) (λ y h. near_place (x +ℤ y) h) (turn_offsets turns)
           (close_places x (turn_offsets turns) (entries_of t) (some_one ys (entries_of t) some) fits there));
     }
+
+-- under levels that stand in for others
+pub stand_levels : (all levels : List Turns) (t : Seen) → AreLevels all t → StandIn all levels → AreLevels levels t
+stand_levels all levels t are stand =
+    let es = entries_of t in
+    record {
+      turns = stand.turns;
+      some = subst (λ s. 0 < length s) (sym (stand.same es)) are.some;
+      small = subst (λ s. size_of s ≤ 2 ^ 62) (sym (stand.same es)) are.small;
+      offsets = λ x close.
+          let there : AreClose (shift x (copies_under all t)) = subst (λ s. AreClose (shift x s)) (stand.same es) close in
+          subst (λ ts. GiveOffsets ts x) (append-nil levels) (stand.gives [] x (subst (λ ts. GiveOffsets ts x) (sym (append-nil all)) (are.offsets x there)));
+    }
+
+pub stand_written : (all levels : List Turns) (t : Seen) (old new : List Instr) (body : Body) → StandIn all levels → IsWritten levels t old new body → IsWritten all t old new body
+stand_written all levels t old new body stand written =
+    let few = stand.few in
+    let short = written.short in
+    let shallow = written.shallow in
+    record {
+      spelled = written.spelled;
+      means = λ x. written.means x ∙ ap (shift x) (stand.same (entries_of t));
+      lawful = written.lawful;
+      short = omega (arith, few, short);
+      shallow = omega (arith, few, shallow);
+    }
+
+pub some_offsets : (levels : List Turns) (t : Seen) → AreLevels levels t → 0 < length (grid_offsets levels)
+some_offsets levels t are =
+    let some = are.some in
+    let long = length-copies (grid_offsets levels) (entries_of t) ∙ mul_comm (length (grid_offsets levels)) (length (entries_of t)) in
+    pos_right (length (entries_of t)) (length (grid_offsets levels)) (omega (arith, some, long))
