@@ -1,10 +1,11 @@
 -- Elements that lie inside a buffer aren't far from 0.
-use Rattle.std.specs.Prelude.{◌≡◌, ℕ, zero, suc, ◌+◌, ◌^◌, ◌<◌, ◌≤◌, Bool, true, ◌&&◌, ℤ, pos, ◌+ℤ◌, ◌*ℤ◌, ◌≤ℤ◌, nat_abs, int_le, IsTrue, List, [], ◌∷◌, length, get_or}
-use Rattle.std.specs.List.{All, AllByRecursion, list_all}
-use Rattle.std.proofs.Common.{refl, sym, ap, subst, ◌∙◌, arith}
+use Rattle.std.specs.Prelude.{◌≡◌, ℕ, ◌+◌, ◌^◌, ◌<◌, ◌≤◌, true, ℤ, pos, ◌+ℤ◌, ◌*ℤ◌, ◌≤ℤ◌, nat_abs, int_le, List, [], ◌∷◌, length, get_or}
+use Rattle.std.specs.List.{AllByRecursion}
+use Rattle.std.proofs.Common.{sym, ap, subst, ◌∙◌, arith}
 use Rattle.std.proofs.lemmas.Bool.{and_parts}
 use Rattle.std.proofs.lemmas.Int.{ints}
 use Rattle.std.proofs.lemmas.Option.{get_or_from_slice_get}
+use Rattle.std.proofs.Math.Nat.{mul_comm}
 use Rattle.dt_map.specs.declared.entry.Entry.{Entry}
 use Rattle.dt_map.specs.Bounds.{extent_of, end_of}
 use Rattle.dt_map.specs.Elements.{elements, are_inside, lies_inside}
@@ -12,16 +13,16 @@ use Rattle.dt_map.specs.Limits.{IsInRange}
 use Rattle.dt_map.specs.Typemap.{Marked, shift, shift_entry}
 use Rattle.dt_map.proofs.Copies.{elements_are_placed}
 use Rattle.dt_offsets.specs.Offsets.{row_offsets}
-use Rattle.dt_offsets.proofs.GridAt.{row_at}
+use Rattle.dt_offsets.proofs.GridAt.{pos_right, row_at}
 use Rattle.dt_offsets.proofs.NearNumbers.{all_at}
 use Rattle.dt_offsets.proofs.Reaches.{count-row}
-use Rattle.dt_type.specs.Listing.{entries_at, HaveDisps}
+use Rattle.dt_type.specs.Listing.{HaveDisps}
 use Rattle.dt_type.proofs.Listings.{in_range_fits}
 use Rattle.dt_type.proofs.ShapeNumbers.{all_more}
 use Rattle.dt_layout.specs.Laws.{InsideIsClose}
 use Rattle.dt_layout.proofs.All.{all_map, all_flat}
 use Rattle.dt_layout.proofs.Copies.{shift_none}
-use Rattle.dt_layout.proofs.Programs.{copies_in_row}
+use Rattle.dt_layout.proofs.Programs.{copies_in_row, length-elements}
 
 -- an element in a buffer, as a number
 IsHeld : ℕ → ℤ → Type 0
@@ -79,3 +80,11 @@ module _ (m : Marked) (count len : ℕ) (origin : ℤ) (small : len ≤ 2 ^ 59) 
       let all = all_map (λ (e : Entry). IsHeld len e.disp) (shift_entry origin) es (subst (AllByRecursion (λ (e : Entry). IsHeld len e.disp)) (moved m count origin) (all_held len (elements m count origin) inside)) in
       let near = near_origin range copies some all in
       all_more (λ (e : Entry). IsHeld len (e.disp +ℤ origin)) (λ (e : Entry). nat_abs e.disp ≤ 2 ^ 61) (λ e h. far e.disp near h) es all
+
+pub inside_is_close : InsideIsClose
+inside_is_close m count len origin range small inside k d lt =
+    let long = length-elements m count in
+    let turned = mul_comm count (length m.entries) in
+    let some = pos_right count (length m.entries) (omega (arith, long, lt)) in
+    let copies = pos_right (length m.entries) count (omega (arith, long, lt, turned)) in
+    all_at (λ (e : Entry). nat_abs e.disp ≤ 2 ^ 61) (elements m count (pos 0)) k d (close m count len origin small range copies some inside) lt

@@ -3,6 +3,7 @@ pub mod Arms
 pub mod Assembly
 pub mod Bodies
 pub mod Copies
+pub mod Inside
 pub mod PartLists
 pub mod Programs
 pub mod Spelled

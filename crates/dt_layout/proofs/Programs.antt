@@ -30,10 +30,10 @@ use Rattle.dt_layout.proofs.Under.{length-copies, copies_of_row, row_level}
 use Rattle.dt_layout.proofs.Weights.{whole_handy}
 
 -- the elements of an operation from 0 on are copies in a row
-copies_in_row : (m : Marked) (count : ℕ) → elements m count (pos 0) ≡ entries_at (row_offsets (pos 0) count (extent_of m)) m.entries
+pub copies_in_row : (m : Marked) (count : ℕ) → elements m count (pos 0) ≡ entries_at (row_offsets (pos 0) count (extent_of m)) m.entries
 copies_in_row m count = sym (flat_map-map (λ x. shift x m.entries) (λ i. pos 0 +ℤ (pos i *ℤ extent_of m)) (below count))
 
-length-elements : (m : Marked) (count : ℕ) → length (elements m count (pos 0)) ≡ count * length m.entries
+pub length-elements : (m : Marked) (count : ℕ) → length (elements m count (pos 0)) ≡ count * length m.entries
 length-elements m count =
     ap length (copies_in_row m count) ∙ length-copies (row_offsets (pos 0) count (extent_of m)) m.entries
     ∙ ap (λ n. n * length m.entries) (count-row (pos 0) (extent_of m) count)
