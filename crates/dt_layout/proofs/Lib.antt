@@ -1,0 +1,13 @@
+pub mod All
+pub mod Arms
+pub mod Assembly
+pub mod Bodies
+pub mod Copies
+pub mod Inside
+pub mod PartLists
+pub mod Programs
+pub mod Spelled
+pub mod Standing
+pub mod Steps
+pub mod Under
+pub mod Weights

@@ -1,0 +1,6 @@
+pub mod Body
+pub mod Code
+pub mod Laws
+pub mod Merging
+pub mod Program
+pub mod Written
