@@ -11,4 +11,6 @@ mod nodes;
 #[cfg(test)]
 mod placed;
 #[cfg(test)]
+mod spellings;
+#[cfg(test)]
 mod weights;
