@@ -13,4 +13,6 @@ mod placed;
 #[cfg(test)]
 mod rebuilt;
 #[cfg(test)]
+mod spellings;
+#[cfg(test)]
 mod weights;

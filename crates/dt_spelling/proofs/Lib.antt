@@ -1,0 +1,11 @@
+pub mod Again
+pub mod Cuts
+pub mod Faults
+pub mod Goods
+pub mod Numbers
+pub mod Parsings
+pub mod Readers
+pub mod Rests
+pub mod Steps
+pub mod Uniques
+pub mod Writes
