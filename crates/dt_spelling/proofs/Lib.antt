@@ -4,6 +4,7 @@ pub mod Faults
 pub mod Goods
 pub mod Numbers
 pub mod Parsings
+pub mod Places
 pub mod Readers
 pub mod Rests
 pub mod Steps

@@ -1,6 +1,7 @@
-use Rattle.std.specs.Prelude.{◌≡◌, List, ◌++◌, ℕ, IsTrue}
+use Rattle.std.specs.Prelude.{◌≡◌, ◌↔◌, List, ◌++◌, ℕ, IsTrue}
 use Rattle.dt_tree.specs.Rule.{numbers_fit}
 use Rattle.dt_tree.specs.Tree.{Tree}
+use Rattle.dt_spelling.specs.Fault.{IsFaultAt}
 use Rattle.dt_spelling.specs.Spelling.{Words, IsSpelling, words_of, words_in, text_of}
 
 -- the spelling of a tree is cut into the tree's words again
@@ -15,4 +16,8 @@ NoSpellingBeginsAnother =
 
 -- each tree has one spelling, and each spelling is that of one tree
 abbrev pub OneSpelling : Type 0
-OneSpelling = (text text' : List ℕ) (tree tree' : Tree) → IsSpelling text tree → IsSpelling text' tree' → (text ≡ text' → tree ≡ tree') × (tree ≡ tree' → text ≡ text')
+OneSpelling = (text text' : List ℕ) (tree tree' : Tree) → IsSpelling text tree → IsSpelling text' tree' → (text ≡ text') ↔ (tree ≡ tree')
+
+-- the fault of a text that is no spelling shows at one place
+abbrev pub OneFault : Type 0
+OneFault = (text : List ℕ) (at at' : ℕ) → IsFaultAt text at → IsFaultAt text at' → at ≡ at'

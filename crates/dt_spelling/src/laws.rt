@@ -1,5 +1,5 @@
 //! Laws of the text of trees, stated over its definitions. The functions do nothing.
-ghost use Rattle.dt_spelling.specs.Laws.{CutsIntoWords, NoSpellingBeginsAnother, OneSpelling};
+ghost use Rattle.dt_spelling.specs.Laws.{CutsIntoWords, NoSpellingBeginsAnother, OneFault, OneSpelling};
 
 /// The spelling of a tree is cut into the tree's words again.
 pub fn cuts_into_words()
@@ -14,4 +14,9 @@ pub fn no_spelling_begins_another()
 /// Each tree has one spelling, and each spelling is that of one tree.
 pub fn one_spelling()
     ensures { OneSpelling }
+{}
+
+/// The fault of a text that is no spelling shows at one place.
+pub fn one_fault()
+    ensures { OneFault }
 {}
