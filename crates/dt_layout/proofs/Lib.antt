@@ -4,6 +4,7 @@ pub mod Assembly
 pub mod Bodies
 pub mod Copies
 pub mod Inside
+pub mod OneBody
 pub mod PartLists
 pub mod Programs
 pub mod Spelled

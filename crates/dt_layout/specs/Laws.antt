@@ -1,7 +1,10 @@
-use Rattle.std.specs.Prelude.{◌≡◌, ℕ, ◌^◌, ◌≤◌, ℤ, pos, nat_abs, IsTrue}
+use Rattle.std.specs.Prelude.{◌≡◌, ℕ, ◌^◌, ◌≤◌, ℤ, pos, nat_abs, IsTrue, List}
 use Rattle.std.specs.List.{All}
 use Rattle.dt_kinds.specs.declared.kind.Rep.{Rep}
 use Rattle.dt_layout.specs.Body.{Body, meaning, size}
+use Rattle.dt_layout.specs.declared.instr.Instr.{Instr}
+use Rattle.dt_layout.specs.Program.{StandsFor}
+use Rattle.dt_map.specs.declared.entry.Entry.{Entry}
 use Rattle.dt_map.specs.Elements.{elements, are_inside}
 use Rattle.dt_map.specs.Limits.{IsInRange}
 use Rattle.dt_map.specs.Packed.{total}
@@ -16,3 +19,7 @@ abbrev pub InsideIsClose : Type 0
 InsideIsClose =
     (m : Marked) (count len : ℕ) (origin : ℤ) → IsInRange m → len ≤ 2 ^ 59 → IsTrue (are_inside len (elements m count origin))
     → All (λ e. nat_abs e.disp ≤ 2 ^ 61) (elements m count (pos 0))
+
+-- a program stands for one list of elements
+abbrev pub StandsForOne : Type 0
+StandsForOne = (code : List Instr) (es fs : List Entry) → StandsFor code es → StandsFor code fs → es ≡ fs
