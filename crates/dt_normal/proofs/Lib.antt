@@ -1,2 +1,9 @@
 pub mod Bounds
+pub mod Cells
 pub mod Examples
+pub mod Listing
+pub mod Lower
+pub mod Rowing
+pub mod Splitting
+pub mod Standing
+pub mod Validity

@@ -1,2 +1,6 @@
+pub mod Costs
+pub mod Known
 pub mod Laws
+pub mod Lows
+pub mod Splits
 pub mod Table
