@@ -72,10 +72,10 @@ divided len block is =
     more (suc zero) e = absurd (omega (arith, e, is.1))
     more (suc (suc n)) e = omega arith
 
-pub is_part : (len block count : ℕ) → 0 < len → count * block ≡ len → 1 < count → IsBlockLength len block
-is_part len zero count some e many = absurd (omega (arith, e))
-is_part len (suc b) zero some e many = absurd (omega arith)
-is_part len (suc b) (suc n) some e many =
+pub is_block_length : (len block count : ℕ) → 0 < len → count * block ≡ len → 1 < count → IsBlockLength len block
+is_block_length len zero count some e many = absurd (omega (arith, e))
+is_block_length len (suc b) zero some e many = absurd (omega arith)
+is_block_length len (suc b) (suc n) some e many =
     let rest : len % suc b ≡ 0 = ap (λ n. n % suc b) (sym e) ∙ mul-mod_left (suc n) (suc b) in
     (omega arith, fewer n e many, rest)
   where
@@ -176,7 +176,7 @@ stacked_most : (w : Weights) (m : List Entry) (start len few grouped index vecto
     → AreKnown w m start (len - 1) row → IsFound w m start len few grouped index vector stacked row
     → (size count cost : ℕ) → count * size ≡ len → 1 < count → are_stacked m start size count ≡ true → IsTreeCost w m start size cost → stacked ≤ cost
 stacked_most w m start len few grouped index vector stacked row long known is size count cost whole many stand h =
-    let part = is_part len size count (omega arith) whole many in
+    let part = is_block_length len size count (omega arith) whole many in
     let same : len / size ≡ count = how_many len size count (omega (arith, part.0)) whole in
     let tree = known_at (IsTreeCost w m start) (len - 1) size row.trees.items known.trees part.0 (omega (arith, part.1)) in
     omega (arith, is.stack.each size (part, subst (λ n. are_stacked m start size n ≡ true) (sym same) stand), tree.1 cost h)
@@ -192,13 +192,13 @@ tree_most w m start len few grouped index vector stacked tree row long inside kn
       leaf = λ one. absurd (omega (arith, one));
       groups = λ cost h. omega (arith, is.group.1 cost h);
       alike = λ size count cost whole many stand h.
-          let part = is_part len size count (omega arith) whole many in
+          let part = is_block_length len size count (omega arith) whole many in
           let same : len / size ≡ count = how_many len size count (omega (arith, part.0)) whole in
           let block = known_at (IsBlockCost w m start) (len - 1) size row.blocks.items known.blocks part.0 (omega (arith, part.1)) in
           let price : w.place * (len / size) ≡ w.place * count = ap (λ n. w.place * n) same in
           omega (arith, is.alike.each size (part, subst (λ n. are_alike m start size n ≡ true) (sym same) stand), block.1 cost h, price);
       even = λ size count cost step whole many stand rise h.
-          let part = is_part len size count (omega arith) whole many in
+          let part = is_block_length len size count (omega arith) whole many in
           let same : len / size ≡ count = how_many len size count (omega (arith, part.0)) whole in
           let block = known_at (IsBlockCost w m start) (len - 1) size row.blocks.items known.blocks part.0 (omega (arith, part.1)) in
           omega (arith, is.even.each size (part, (subst (λ n. are_alike m start size n ≡ true) (sym same) stand, (step, subst (λ n. rise_by step m start size n ≡ true) (sym same) rise))), block.1 cost h);

@@ -72,16 +72,16 @@ abbrev pub from_first : List Entry → ℕ → ℕ → ℕ → ℤ
 from_first m start len k = first_disp (block_of m start len k) -ℤ first_disp (segment m start len)
 
 -- where the blocks of a segment begin, from the first one on
-abbrev pub places_of : List Entry → ℕ → ℕ → ℕ → List ℤ
-places_of m start len count = map (from_first m start len) (below count)
+abbrev pub from_firsts : List Entry → ℕ → ℕ → ℕ → List ℤ
+from_firsts m start len count = map (from_first m start len) (below count)
 
-pub length-places_of : (m : List Entry) (start len count : ℕ) → length (places_of m start len count) ≡ count
-length-places_of m start len count = length-map (below count) (from_first m start len) ∙ length-below count
+pub length-from_firsts : (m : List Entry) (start len count : ℕ) → length (from_firsts m start len count) ≡ count
+length-from_firsts m start len count = length-map (below count) (from_first m start len) ∙ length-below count
 
 pub index_stands : (m : List Entry) (start len count block : ℕ) (base : ℤ) (tree : Tree) → shift base (run block (flat tree)) ≡ segment m start len
-    → are_alike m start len count ≡ true → shift base (flat (index block (places_of m start len count) tree)) ≡ segment m start (count * len)
+    → are_alike m start len count ≡ true → shift base (flat (index block (from_firsts m start len count) tree)) ≡ segment m start (count * len)
 index_stands m start len count block base tree same alike =
-    placed-shift base (places_of m start len count) (run block (flat tree)) ∙ (ap (placed_at (places_of m start len count)) same ∙ sym (alike_joined m start len count alike))
+    placed-shift base (from_firsts m start len count) (run block (flat tree)) ∙ (ap (placed_at (from_firsts m start len count)) same ∙ sym (alike_joined m start len count alike))
 
 pub run_stands : (m : List Entry) (start len count : ℕ) (base : ℤ) (tree : Tree) → shift base (flat tree) ≡ segment m start len
     → are_stacked m start len count ≡ true → shift base (run count (flat tree)) ≡ segment m start (count * len)
@@ -114,8 +114,8 @@ even_cost w m start len count cost step some alike rise (block, tree, base, bloc
 pub alike_cost : (w : Weights) (m : List Entry) (start len count cost : ℕ) → 0 < count → are_alike m start len count ≡ true
     → IsBlockCost w m start len cost → IsTreeCost w m start (count * len) (w.index + w.place * count + cost)
 alike_cost w m start len count cost some alike (block, tree, base, blocks, is, same, costs) =
-    let long = length-places_of m start len count in (
-      index block (places_of m start len count) tree,
+    let long = length-from_firsts m start len count in (
+      index block (from_firsts m start len count) tree,
       base,
       ((blocks, omega (arith, some, long), is), index_stands m start len count block base tree same alike),
       ap (λ n. w.index + w.place * n + cost_of w tree) long ∙ ap (λ c. w.index + w.place * count + c) costs,
@@ -154,7 +154,7 @@ group_of_parts w m start len most cost some inside (parts, base, are, first, sam
     held no_parts some = absurd (omega arith)
     held (part block disp child rest) some = tt
 
-length_of : (m : List Entry) (start len : ℕ) (base : ℤ) (es : List Entry) → start + len ≤ length m → shift base es ≡ segment m start len → length es ≡ len
+pub length_of : (m : List Entry) (start len : ℕ) (base : ℤ) (es : List Entry) → start + len ≤ length m → shift base es ≡ segment m start len → length es ≡ len
 length_of m start len base es inside same = sym (length-shift base es) ∙ (ap length same ∙ length-segment m start len inside)
 
 pub part_of_block : (w : Weights) (m : List Entry) (start k len most one cost : ℕ) → start + k ≤ length m → IsBlockCost w m start k one

@@ -97,3 +97,9 @@ pub tree_read : (w : Weights) (m : List Entry) (start len cost : ℕ) (row : Row
 tree_read w m start len cost row are some inside is =
     let here : get_or row.trees.items (len - 1) 0 ≡ cost = get_or_default row.trees.items (len - 1) 0 cost (omega (arith, are.trees.each)) ∙ sym is in
     subst (IsLeastOf (IsTreeCost w m start len)) here (known_at (IsTreeCost w m start) (length m - start) len row.trees.items are.trees some (omega (arith, inside)))
+
+pub block_read : (w : Weights) (m : List Entry) (start len cost : ℕ) (row : Row) → IsRow w m start row → 1 ≤ len → start + len ≤ length m
+    → cost ≡ get_or row.blocks.items (len - 1) cost → IsLeastOf (IsBlockCost w m start len) cost
+block_read w m start len cost row are some inside is =
+    let here : get_or row.blocks.items (len - 1) 0 ≡ cost = get_or_default row.blocks.items (len - 1) 0 cost (omega (arith, are.blocks.each)) ∙ sym is in
+    subst (IsLeastOf (IsBlockCost w m start len)) here (known_at (IsBlockCost w m start) (length m - start) len row.blocks.items are.blocks some (omega (arith, inside)))

@@ -15,7 +15,7 @@ use dt_tree::Weights;
 use std::alloc::Global;
 
 /// The weights are within their limits.
-fn are_light(w: &Weights)
+pub(crate) fn are_light(w: &Weights)
     ensures { AreLight w.now }
 {
     let _leaf = w.leaf();

@@ -56,7 +56,7 @@ pub(crate) fn stand(split: Split, classes: &Classes, at: Segment, block: u32) ->
 }
 
 /// What a node over so many blocks costs, where a block costs so much.
-fn node_cost(split: Split, w: &Weights, count: u32, block: u32) -> u32
+pub(crate) fn node_cost(split: Split, w: &Weights, count: u32, block: u32) -> u32
     requires count { count ≤ 1024 }
     requires block { block ≤ 2049000000 }
     ensures { result ≡ spec.node_cost w.now split count block }
