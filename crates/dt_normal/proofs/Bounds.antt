@@ -196,7 +196,7 @@ no_steps : (step : ℤ) → pos 0 *ℤ step ≡ pos 0
 no_steps (pos s) = omega (arith, ints)
 no_steps (negsuc s) = omega (arith, ints)
 
-one_block : (m : List Entry) (start len : ℕ) → are_stacked m start len 1 ≡ true
+pub one_block : (m : List Entry) (start len : ℕ) → are_stacked m start len 1 ≡ true
 one_block m start len =
     let step = natural_extent (segment m start len) in
     let same : block_of m start len 0 ≡ segment m start len = ap (λ i. segment m i len) (none start len) in

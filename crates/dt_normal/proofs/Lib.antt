@@ -1,2 +1,15 @@
 pub mod Bounds
+pub mod Building
+pub mod Cells
+pub mod Ending
 pub mod Examples
+pub mod Following
+pub mod Forming
+pub mod Grouping
+pub mod Listing
+pub mod Lower
+pub mod Parting
+pub mod Rowing
+pub mod Splitting
+pub mod Standing
+pub mod Validity

@@ -1,2 +1,9 @@
+pub mod Bests
+pub mod Costs
+pub mod Forms
+pub mod Known
 pub mod Laws
+pub mod Lows
+pub mod Places
+pub mod Splits
 pub mod Table
