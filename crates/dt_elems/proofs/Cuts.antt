@@ -23,7 +23,7 @@ use Rattle.dt_type.proofs.Lookups.{part_entries}
 use Rattle.dt_elems.proofs.Receiving.{done-placed, done-more, done-cut, received-some, received-le, none_or_some}
 
 -- copies
-entries-copies : (xs : List ℤ) (m : Marked) → (copies_at xs m).entries ≡ flat_map (λ x. shift x m.entries) xs
+pub entries-copies : (xs : List ℤ) (m : Marked) → (copies_at xs m).entries ≡ flat_map (λ x. shift x m.entries) xs
 entries-copies xs m = flat_map-map (λ (member : ℤ × Marked). shift member.0 member.1.entries) (λ x. (x, m)) xs
 
 total-placed : (rep : Rep) (es : List Entry) (xs : List ℤ) → total rep (flat_map (λ x. shift x es) xs) ≡ length xs * total rep es

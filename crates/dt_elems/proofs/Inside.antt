@@ -69,7 +69,7 @@ span_known None [] low high some is e f = absurd (omega arith)
 span_known None (x ∷ es) low high some is e f = absurd (never_none _ (span_of es) is)
 span_known (Some s) es low high some is e f = is ∙ both _ _ _ _ (sym e) (sym f)
 
-span_of_some : (es : List Entry) → 0 < length es → span_of es ≡ Some (record { lb = true_lb es; ub = true_ub es })
+pub span_of_some : (es : List Entry) → 0 < length es → span_of es ≡ Some (record { lb = true_lb es; ub = true_ub es })
 span_of_some es some = span_known (span_of es) es (true_lb es) (true_ub es) some refl (true_lb_is es) (true_ub_is es)
 
 -- the elements of one copy or more

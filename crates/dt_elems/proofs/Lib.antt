@@ -4,4 +4,6 @@ pub mod Cuts
 pub mod Inside
 pub mod Places
 pub mod Receiving
+pub mod Rising
+pub mod Spreading
 pub mod Taken

@@ -1,6 +1,7 @@
 //! Tests on the elements of an operation, their packed bytes, and counts of received bytes.
 #![tactic(auto)]
 
+mod apart;
 mod bytes;
 mod counts;
 pub mod laws;

@@ -7,6 +7,7 @@ ghost use Rattle.dt_type.specs.Datatype.{typemap_of, entries_of};
 ghost use Rattle.dt_elems.specs.Place.{IsPlace};
 ghost use Rattle.dt_elems.specs.Taking.{are_free, with_bytes, with_elements};
 
+use crate::apart::copies_are_apart;
 use crate::bytes::start_of;
 use crate::place::copy_at;
 use crate::span::{has_elements, packed_size};
@@ -104,8 +105,9 @@ fn few_entries(alloc: Global, ty: &Datatype, len: usize) -> Result<FlatMap, NoMe
 }
 
 /// Whether two elements of an operation share a byte, as none may that are received (MPI 4.1, section 5.1.11). The elements lie
-/// inside a buffer of so many bytes, as `span_inside` tells. It takes memory of the order of these bytes, and never looks at more
-/// elements than there are bytes.
+/// inside a buffer of so many bytes, as `span_inside` tells. Where arithmetic tells the answer, it takes no memory, and the time of
+/// reading what the type writes down. Else it takes memory of the order of the buffer's bytes, and looks at no more elements than
+/// there are bytes.
 pub fn overlaps(
     alloc: Global,
     ty: &Datatype,
@@ -121,6 +123,9 @@ pub fn overlaps(
     }
     if packed_size(ty, Rep::Native, count) > len as u128 {
         return Ok(true);
+    }
+    if copies_are_apart(ty, count) {
+        return Ok(false);
     }
     let map = few_entries(alloc, ty, len)?;
     let mut taken = vec![in alloc; false; len]?;

@@ -1,9 +1,10 @@
 //! Whether two elements of an operation share a byte.
 
-use dt_ctor::{contiguous, hindexed_block, hvector, resized, structure};
+use dt_array::subarray;
+use dt_ctor::{contiguous, hindexed_block, hvector, resized, structure, vector};
 use dt_elems::{overlaps, span_inside};
 use dt_kinds::{Kind, NoMemory};
-use dt_type::{CtorFault, Datatype, Part};
+use dt_type::{CtorFault, Datatype, Order, Part, SubDim};
 use std::alloc::Global;
 use std::test::Fail;
 
@@ -162,5 +163,48 @@ fn more_elements_than_bytes(rt: HostRuntime) -> Result<(), Fail> {
     let crowd = crowd(rt.alloc())?;
     let answer = found(rt.alloc(), &crowd, 1, 0, 1)?;
     assert_eq!(rt; answer, Some(true));
+    Ok(())
+}
+
+/// The bytes of a buffer, and the ints that fill it.
+const LONG: usize = 16_777_216;
+
+const INTS: i32 = 4_194_304;
+
+/// Ints in a row, each second one of them, and the inner 126 of 128 in each of three dimensions.
+fn row(alloc: Global) -> Result<Datatype, CtorFault> {
+    contiguous(alloc, INTS, &Datatype::named(alloc, Kind::Int)?)
+}
+
+fn each_second(alloc: Global) -> Result<Datatype, CtorFault> {
+    vector(alloc, INTS / 2, 1, 2, &Datatype::named(alloc, Kind::Int)?)
+}
+
+fn inner_block(alloc: Global) -> Result<Datatype, CtorFault> {
+    let dim = SubDim {
+        size: 128,
+        sub: 126,
+        start: 1,
+    };
+    let int = Datatype::named(alloc, Kind::Int)?;
+    subarray(alloc, &[dim, dim, dim], Order::C, &int)
+}
+
+/// Whether the elements lie inside the long buffer, and none overlap.
+fn are_apart(alloc: Global, ty: &Datatype, count: u32) -> Result<bool, Fail> {
+    Ok(found(alloc, ty, count, 0, LONG)? == Some(false))
+}
+
+#[test]
+fn long_steps_over_many_bytes(rt: HostRuntime) -> Result<(), Fail> {
+    let row = row(rt.alloc())?;
+    let apart = are_apart(rt.alloc(), &row, 1)?;
+    assert!(rt; apart);
+    let second = each_second(rt.alloc())?;
+    let apart = are_apart(rt.alloc(), &second, 1)?;
+    assert!(rt; apart);
+    let block = inner_block(rt.alloc())?;
+    let apart = are_apart(rt.alloc(), &block, 2)?;
+    assert!(rt; apart);
     Ok(())
 }

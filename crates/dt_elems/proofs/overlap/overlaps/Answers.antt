@@ -13,6 +13,7 @@ use Rattle.dt_elems.specs.Taking.{with_elements}
 use Rattle.dt_elems.proofs.Clashes.{overlaps_from_none, apart_from_some, overlaps_from_size}
 use Rattle.dt_elems.proofs.Inside.{no_elements}
 use Rattle.dt_elems.proofs.Receiving.{elements_fit}
+use Rattle.dt_elems.proofs.Spreading.{never_overlaps}
 use Rattle.dt_elems.proofs.overlap.overlaps.Goals as goal
 
 yes : (es : List Entry) → Overlaps es → IsTrue true ↔ Overlaps es
@@ -60,3 +61,8 @@ returns c =
     let origin = to_z-of_z w64 c.args.origin c.ranges.origin in
     let free : c.deref_mut.result.now ≡ replicate c.args.len false = c.deref_mut.ensures.value ∙ c.in_ok-taken.ensures.items_if_clones_equal (λ y h. h) in
     yes es (overlaps_from_none c.args.len es c.requires (ap (λ bs. with_elements bs es) (sym free) ∙ ap (λ x. with_elements c.deref_mut.result.now (elements (typemap_of c.args.ty.now) c.args.count x)) (sym origin) ∙ c.in-Err.ensures))
+
+pub returns-then-copies_are_apart : goal.returns-then-copies_are_apart
+returns-then-copies_are_apart c =
+    let es = elements (typemap_of c.args.ty.now) c.args.count c.args.origin in
+    no es (never_overlaps es (c.if-copies_are_apart.ensures refl c.args.origin))
