@@ -102,7 +102,7 @@ fn first_room(ty: &Datatype, rep: Rep, count: u32) -> usize {
 }
 
 /// The packed bytes of an operation in a representation: the images of all its elements, joined in their order (MPI 4.1,
-/// sections 5.2 and 14.5.2). The elements lie inside the buffer, as `span_inside` tells.
+/// sections 5.2, 5.3 and 14.5.2). The elements lie inside the buffer, as `span_inside` tells. `NoMemory` where memory ran out.
 pub fn packed_bytes(
     alloc: Global,
     ty: &Datatype,

@@ -107,7 +107,7 @@ fn few_entries(alloc: Global, ty: &Datatype, len: usize) -> Result<FlatMap, NoMe
 /// Whether two elements of an operation share a byte, as none may that are received (MPI 4.1, section 5.1.11). The elements lie
 /// inside a buffer of so many bytes, as `span_inside` tells. Where arithmetic tells the answer, it takes no memory, and the time of
 /// reading what the type writes down. Else it takes memory of the order of the buffer's bytes, and looks at no more elements than
-/// there are bytes.
+/// there are bytes. `NoMemory` where memory ran out.
 pub fn overlaps(
     alloc: Global,
     ty: &Datatype,

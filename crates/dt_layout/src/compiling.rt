@@ -33,9 +33,9 @@ fn has_elements(ty: &Datatype, count: u32) -> bool
     count > 0 && ty.bounds().elements > 0
 }
 
-/// The program of all elements of an operation that begins at 0, in their order. The elements lie at most 2^61 bytes away, as they do
+/// The program of all elements of an operation (MPI 4.1, section 5.1.11) that begins at 0, in their order. The elements lie at most 2^61 bytes away, as they do
 /// where they lie inside a buffer from some origin on, and have at most 2^62 bytes. The program is short: three instructions at most
-/// for each unit of the datatype's weight, and three more.
+/// for each unit of the datatype's weight, and three more. `NoMemory` where memory ran out.
 pub fn compile(alloc: Global, ty: &Datatype, count: u32) -> Result<Program, NoMemory>
     requires close { All (λ e. nat_abs e.disp ≤ 2 ^ 61) (elements (typemap_of ty.now) count (pos 0)) }
     requires small { total reps.Native (elements (typemap_of ty.now) count (pos 0)) ≤ 2 ^ 62 }

@@ -7,7 +7,7 @@ pub fn built_has_entries()
     ensures { BuiltHasEntries }
 {}
 
-/// The datatype of a tidy tree of at most 1,024 entries is at most 21 deep.
+/// The datatype of a tidy tree of at most 1,024 entries, without base and marks, is at most 21 deep.
 pub fn tidy_is_shallow()
     ensures { TidyIsShallow }
 {}

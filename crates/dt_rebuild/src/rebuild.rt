@@ -28,10 +28,13 @@ fn placed(alloc: Global, base: i64, tree: Option<&Tree>) -> Result<Datatype, Cto
     hindexed_block(alloc, 1, &[base], &old)
 }
 
-/// The datatype of a tree, from `base` bytes on, with these marks: a vector becomes an hvector, an index an hindexed_block, and a group a struct
-/// (MPI 4.1, section 5.1.2), each with its block lengths; round that stands an hindexed_block of one copy at `base`, and round that, where
-/// there are marks and nowhere else, a resized (section 5.1.7). No tree becomes no copies of `MPI_BYTE`. A refusal is that of the first of
-/// these constructors that refuses, innermost first and from left to right.
+/// The datatype of a tree, from `base` bytes on, with these marks: a vector becomes an hvector, an index an hindexed_block, and a group a
+/// struct (MPI 4.1, section 5.1.2), each with its block lengths; round that stands an hindexed_block of one copy at `base`, and round
+/// that, where there are marks and nowhere else, a resized (section 5.1.7). No tree becomes no copies of `MPI_BYTE`.
+///
+/// The marks are in bytes, and at most 2^60 in absolute value. A refusal is that of the first of these constructors that refuses,
+/// innermost first and from left to right: `Overflow` where a bound or the size of its datatype is out of range, `TooDeep` above 64
+/// levels, `TooHeavy` above a weight of 65,536; never `BadArgument`. `NoMemory` where memory ran out.
 pub fn to_type(
     alloc: Global,
     base: i64,

@@ -12,9 +12,10 @@ use std::alloc::Global;
 
 /// The tree whose spelling a text is (see `write_text`), from left to right and without going deeper than 64 nodes.
 ///
-/// `Syntax` comes exactly where the text is no spelling of a tree. Its `at` is the offset of the first word for which no spelling begins
-/// with the words up to it, where words are what stands between any two spaces; and the length of the text where there is no such word:
-/// words are missing, or all is spelled well but a node's true bounds are above 2^80. `NoMemory` where memory ran out.
+/// `Syntax` comes exactly where the text is no spelling of a tree. Its `at` is the offset in bytes of the first word with which, behind
+/// those before it, no spelling begins if true bounds are put aside, where words are what stands between any two spaces; and the length
+/// of the text where there is no such word: words are missing, or all is spelled well but a node's true bounds are above 2^80.
+/// `NoMemory` where memory ran out.
 pub fn read_text(alloc: Global, text: &[u8]) -> Result<Tree, TreeFault>
     ensures { MatchResult result (λ tree. IsSpelling text.now (tree_of tree)) (λ fault. IsRefused text.now fault) }
 {
