@@ -16,17 +16,22 @@ use thiserror::Error;
 /// A least tree, where it begins, what it costs, and the table that shows that no tree costs less.
 #[derive(Drop)]
 pub struct Best {
+    /// Where the tree begins, in bytes: the first displacement of the typemap, 0 where there is no tree.
     pub base: i64,
+    /// None for a typemap without entries.
     pub tree: Option<Tree>,
     pub cost: u64,
+    /// The greatest valid table, as `least_table` lists it.
     pub lows: Vec<Low>,
 }
 
 /// Why no tree is looked for.
 #[derive(Clone, Copy, Debug, PartialEq, Eq, Error)]
 pub enum NormalFault {
+    /// The typemap has more than 1,024 entries.
     #[error("the typemap has more than 1,024 entries")]
     TooMany,
+    /// Memory ran out.
     #[error("memory ran out")]
     NoMemory,
 }
@@ -65,9 +70,9 @@ fn best_of(alloc: Global, map: &FlatMap, w: &Weights) -> Result<Best, NoMemory>
     })
 }
 
-/// A tidy tree that stands for a typemap from its first displacement on, and that no tree which stands for it, from whatever base on,
-/// costs less than. Beside it the greatest valid table, as `least_table` lists it, which says of the whole typemap what the tree costs.
-/// A typemap without entries has no tree. `TooMany` comes exactly where it has more than 1,024 entries.
+/// A tidy tree that stands for a typemap from its first displacement on. No tree that stands for the typemap, from whatever base on,
+/// costs less. Beside it the greatest valid table, as `least_table` lists it, which says of the whole typemap what the tree costs.
+/// A typemap without entries has no tree. `TooMany` comes exactly where it has more than 1,024 entries, `NoMemory` where memory ran out.
 pub fn normalise(alloc: Global, map: &FlatMap, w: &Weights) -> Result<Best, NormalFault>
     ensures { MatchResult result (λ best. (length map.now.entries ≤ 1024) × IsBest w.now map.now.entries best) (λ fault. IsNotFound map.now.entries fault) }
 {

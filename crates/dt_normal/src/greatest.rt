@@ -119,7 +119,7 @@ pub(crate) fn list_rows(
 
 /// The greatest valid table of a typemap, from the classes of its segments alone: a valid table that no valid one exceeds at any segment.
 /// It lists the segments whose values are above 0, the shorter first, then by their starts. It takes memory that grows with the square of
-/// the number of entries, and time that grows with the cube.
+/// the number of entries, and time that grows with the cube. `NoMemory` where memory ran out.
 pub fn least_table(alloc: Global, classes: &Classes, w: &Weights) -> Result<Vec<Low>, NoMemory>
     ensures { IfOk result (λ lows. IsLeastTable w.now classes.now lows.items) }
 {

@@ -1,6 +1,6 @@
 //! A table of segments as a list.
 
-/// What a table says of the segment of the entries numbered `from` and on, without `to`.
+/// What a table says of the segment of the entries numbered `from` and on, without `to`: `low` is its value.
 #[derive(Clone, Copy, Debug, PartialEq, Eq)]
 pub struct Low {
     pub from: u32,
