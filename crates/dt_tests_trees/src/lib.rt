@@ -5,6 +5,8 @@
 #[cfg(test)]
 mod classes;
 #[cfg(test)]
+mod least;
+#[cfg(test)]
 mod limits;
 #[cfg(test)]
 mod nodes;
