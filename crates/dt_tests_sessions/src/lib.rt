@@ -8,3 +8,5 @@ mod counts;
 mod images;
 #[cfg(test)]
 mod overlapping;
+#[cfg(test)]
+mod programs;
