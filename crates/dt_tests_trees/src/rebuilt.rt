@@ -37,6 +37,21 @@ fn has(
     )
 }
 
+/// Whether the entries of one kind stand at these places, in this order.
+fn places_of(alloc: Global, t: &Datatype, kind: Kind, places: &[i64]) -> Result<bool, Fail> {
+    let map = t.flatten(alloc, 64)?;
+    let mut seen = 0_usize;
+    for entry in map.entries() {
+        if entry.kind == kind {
+            if places.get(seen).copied() != Some(entry.disp) {
+                return Ok(false);
+            }
+            seen = seen.saturating_add(1);
+        }
+    }
+    Ok(seen == places.len())
+}
+
 /// A column of a matrix, at its base and with the marks of the matrix: a resized round an hindexed_block of the column.
 #[test]
 fn column(rt: HostRuntime) -> Result<(), Fail> {
@@ -58,13 +73,13 @@ fn column(rt: HostRuntime) -> Result<(), Fail> {
     Ok(())
 }
 
-/// Blocks of two at a stride, at places, and in a group; marks nowhere.
+/// Three blocks of two, 100 bytes apart, without marks: no resized stands round them.
 #[test]
-fn blocks(rt: HostRuntime) -> Result<(), Fail> {
+fn blocks_at_a_stride(rt: HostRuntime) -> Result<(), Fail> {
     let alloc = rt.alloc();
     let int = Kind::Int;
-    let c = tree(vector(alloc, 3, 2, 100, Node::Leaf(int))?)?;
-    let t = to_type(alloc, 0, Some(&c), None)?;
+    let node = tree(vector(alloc, 3, 2, 100, Node::Leaf(int))?)?;
+    let t = to_type(alloc, 0, Some(&node), None)?;
     let row = [
         (int, 0),
         (int, 4),
@@ -75,27 +90,38 @@ fn blocks(rt: HostRuntime) -> Result<(), Fail> {
     ];
     assert!(rt; has(alloc, &t, &row, None)?);
     assert!(rt; t.envelope().combiner == Combiner::HindexedBlock);
-    let placed = tree(index(alloc, 2, &[0, 40], int_and_byte(alloc)?)?)?;
-    let t = to_type(alloc, -8, Some(&placed), None)?;
-    let byte = Kind::Byte;
+    Ok(())
+}
+
+/// Two blocks of two structs each, from -8 on.
+#[test]
+fn blocks_at_places(rt: HostRuntime) -> Result<(), Fail> {
+    let alloc = rt.alloc();
+    let node = tree(index(alloc, 2, &[0, 40], int_and_byte(alloc)?)?)?;
+    let t = to_type(alloc, -8, Some(&node), None)?;
+    let ints = [-8, 0, 32, 40];
+    assert!(rt;
+        places_of(alloc, &t, Kind::Int, &ints)?
+            && places_of(alloc, &t, Kind::Byte, &[-4, 4, 36, 44])?
+    );
+    Ok(())
+}
+
+/// A block of three ints, and a byte.
+#[test]
+fn blocks_in_a_group(rt: HostRuntime) -> Result<(), Fail> {
+    let alloc = rt.alloc();
+    let int = part(3, 0, Node::Leaf(Kind::Int));
+    let byte = part(1, 20, Node::Leaf(Kind::Byte));
+    let node = tree(pair(alloc, int, byte)?)?;
+    let t = to_type(alloc, 0, Some(&node), None)?;
     let row = [
-        (int, -8),
-        (byte, -4),
-        (int, 0),
-        (byte, 4),
-        (int, 32),
-        (byte, 36),
-        (int, 40),
-        (byte, 44),
+        (Kind::Int, 0),
+        (Kind::Int, 4),
+        (Kind::Int, 8),
+        (Kind::Byte, 20),
     ];
     assert!(rt; has(alloc, &t, &row, None)?);
-    let q = tree(pair(
-        alloc,
-        part(3, 0, Node::Leaf(int)),
-        part(1, 20, Node::Leaf(byte)),
-    )?)?;
-    let t = to_type(alloc, 0, Some(&q), None)?;
-    assert!(rt; has(alloc, &t, &[(int, 0), (int, 4), (int, 8), (byte, 20)], None)?);
     assert!(rt; t.child(0)?.envelope().combiner == Combiner::Struct);
     Ok(())
 }
