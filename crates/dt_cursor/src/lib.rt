@@ -1,0 +1,7 @@
+//! Any byte of a loop program, found by few reads: frames stand at the element that holds it.
+#![tactic(auto)]
+
+pub mod frames;
+pub mod laws;
+
+pub use frames::{Frame, Frames};
