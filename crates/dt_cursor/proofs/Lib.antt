@@ -1,2 +1,6 @@
+pub mod IntoCopies
+pub mod Narrowing
 pub mod Placed
+pub mod Reading
 pub mod Running
+pub mod SpotCopies

@@ -3,5 +3,7 @@
 
 pub mod frames;
 pub mod laws;
+mod spots;
+mod step;
 
 pub use frames::{Frame, Frames};
