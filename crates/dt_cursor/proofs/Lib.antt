@@ -1,3 +1,4 @@
+pub mod Elements
 pub mod IntoCopies
 pub mod Narrowing
 pub mod Placed

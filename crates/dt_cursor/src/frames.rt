@@ -1,5 +1,5 @@
 //! Where a run of a loop program stands.
-ghost use Rattle.std.specs.Prelude.{◌≡◌, ◌<◌, [], ◌∷◌, length};
+ghost use Rattle.std.specs.Prelude.{◌≡◌, ◌<◌, [], ◌∷◌, length, slice_get};
 
 use arrayvec::ArrayVec;
 use std::marker::Model;
@@ -48,5 +48,12 @@ impl Frames {
         ensures { self.new ≡ frame ∷ self.old }
     {
         self.levels.push(frame);
+    }
+
+    /// The innermost level.
+    pub(crate) fn innermost(&self) -> Option<Frame>
+        ensures { result ≡ slice_get self.now 0 }
+    {
+        self.levels.as_slice().last().copied()
     }
 }

@@ -4,6 +4,8 @@
 pub mod frames;
 pub mod laws;
 mod spots;
+mod standing;
 mod step;
 
 pub use frames::{Frame, Frames};
+pub use standing::here;
