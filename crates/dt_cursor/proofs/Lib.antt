@@ -1,0 +1,7 @@
+pub mod Elements
+pub mod IntoCopies
+pub mod Narrowing
+pub mod Placed
+pub mod Reading
+pub mod Running
+pub mod SpotCopies

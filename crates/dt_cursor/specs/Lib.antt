@@ -1,0 +1,4 @@
+pub mod Frames
+pub mod Laws
+pub mod Rounds
+pub mod Search
