@@ -31,5 +31,14 @@ def make_copy(top, name, uses, files):
 def run(name, uses, files):
     """Runs the program of a crate of these files, by their paths in it. Answers its exit status."""
     with tempfile.TemporaryDirectory() as top:
-        folder = make_copy(top, name, uses, files)
-        return subprocess.run(["rt", "run"], cwd=folder).returncode
+        return subprocess.run(["rt", "run"], cwd=make_copy(top, name, uses, files)).returncode
+
+
+def built(top, name, uses, files):
+    """The path of the program of a crate of these files, proved and built in a folder, and run once without words."""
+    folder = make_copy(top, name, uses, files)
+    subprocess.run(["rt", "run"], cwd=folder, stdout=subprocess.DEVNULL)
+    program = os.path.join(folder, "out", name)
+    if not os.path.exists(program):
+        raise SystemExit(f"{name} isn't proved")
+    return program
