@@ -2,3 +2,4 @@ pub mod Frames
 pub mod Laws
 pub mod Rounds
 pub mod Search
+pub mod Walk
