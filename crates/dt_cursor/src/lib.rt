@@ -3,6 +3,7 @@
 
 pub mod frames;
 pub mod laws;
+mod parts;
 mod spots;
 mod standing;
 mod step;
