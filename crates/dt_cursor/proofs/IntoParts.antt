@@ -1,5 +1,5 @@
 -- The search for a packed byte, into a part of a sequence.
-use Rattle.std.specs.Prelude.{◌≡◌, Some, ℕ, suc, ◌+◌, ◌-◌, ◌*◌, ◌<◌, ◌≤◌, ℤ, pos, List, [], ◌∷◌, ◌++◌, length, slice_get}
+use Rattle.std.specs.Prelude.{◌≡◌, Some, ℕ, ◌+◌, ◌-◌, ◌*◌, ◌<◌, ◌≤◌, ℤ, pos, List, [], ◌∷◌, ◌++◌, length, slice_get}
 use Rattle.std.proofs.Common.{refl, sym, ap, subst, ◌∙◌, arith, append_assoc, append-nil, length-append}
 use Rattle.std.proofs.lemmas.Grind.{flat_map-append}
 use Rattle.std.proofs.lemmas.Option.{slice_get_within}
@@ -9,7 +9,7 @@ use Rattle.dt_cursor.specs.declared.parts.PartTurn.{PartTurn}
 use Rattle.dt_cursor.specs.declared.step.Copied.{Copied}
 use Rattle.dt_cursor.specs.Frames.{IsPlaced}
 use Rattle.dt_cursor.specs.Rounds.{Round, part_round, part_rounds, elements_of}
-use Rattle.dt_cursor.specs.Search.{IsSought, IsNarrowed, IsTurnSought, PartsStand, IsByteOfPart, IsTurnOfPart, size_in}
+use Rattle.dt_cursor.specs.Search.{IsSought, IsTurnSought, PartsStand, IsTurnOfPart, size_in}
 use Rattle.dt_cursor.proofs.Narrowing.{IsInRound, in_round, size_is}
 use Rattle.dt_cursor.proofs.Placed.{elements_parts}
 use Rattle.dt_cursor.proofs.Reading.{get_seam}

@@ -1,3 +1,4 @@
+pub mod ByLevels
 pub mod Elements
 pub mod IntoCopies
 pub mod IntoParts

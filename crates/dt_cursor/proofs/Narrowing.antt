@@ -4,7 +4,7 @@ use mir.Syntax.{w64, w128}
 use mir.Val.{to_z, of_z}
 use Rattle.std.specs.Prelude.{◌≡◌, Some, ℕ, suc, ◌+◌, ◌*◌, ◌<◌, ◌≤◌, ℤ, ◌+ℤ◌, pos, nat_abs, ◌^◌, List, [], ◌∷◌, ◌++◌, map, length, take, drop, slice_get}
 use Rattle.std.proofs.Common.{refl, sym, ap, subst, ◌∙◌, arith, append_assoc, append-nil}
-use Rattle.std.proofs.lemmas.Int.{to_z-of_z}
+use Rattle.std.proofs.lemmas.Int.{to_z-of_z, fits_signed_from_abs}
 use Rattle.std.proofs.lemmas.List.{map-append, length-take-le}
 use Rattle.std.proofs.lemmas.List.Sums.{sum_by-cons}
 use Rattle.std.proofs.Math.Seq.{split_at}
@@ -68,7 +68,7 @@ module _ (code : List Instr) (rep : Rep) (frames : List Frame) (at : ℕ) (x : �
       → (less : ℕ) → left ≡ total rep (elements_of gone) + less → less < size rep round.body → IsNarrowed code rep es left (round.frame ∷ frames) round.at round.offset less
   narrowed body sought gone later round split less place within =
       let r = in_round body sought gone later round split less place within in
-      record { body = round.body; inside = r.inside; sought = r.sought; gone = r.gone; all = r.all; place = r.place }
+      record { body = round.body; inside = r.inside; sought = r.sought; near = r.sought.run.placed.offset (some_native rep round.body (omega (arith, within))); gone = r.gone; all = r.all; place = r.place }
 
   -- at the end
   pub ended : (body : Body) → IsSought code rep frames at x left body es → size rep body ≤ left → (new : List Frame) → new ≡ frames → IsFound code rep es left new 0
@@ -119,13 +119,6 @@ module _ (code : List Instr) (rep : Rep) (frames : List Frame) (at : ℕ) (x : �
       let count : total rep (elements_of gone) ≡ q * size rep b = turns_total b t (take q all) ∙ ap (λ n. n * size rep b) (length-take-le q all (omega (arith, there))) in
       narrowed (loop t b) sought gone (map (turn_round at t b x) (drop (suc q) all)) (turn_round at t b x q) split less (omega (arith, place, count)) small
 
--- the offset of a body in which a byte is sought is in range
-pub near : (code : List Instr) (rep : Rep) (es : List Entry) (left : ℕ) (frame : Frame) (frames : List Frame) (at : ℕ) (x : ℤ) (less : ℕ) → IsNarrowed code rep es left (frame ∷ frames) at x less
-    → nat_abs x < 2 ^ 63
-near code rep es left frame frames at x less n =
-    let within = n.sought.inner (omega arith) in
-    n.sought.run.placed.offset (some_native rep n.body (omega (arith, within)))
-
 pub size_is : (rep : Rep) (b : Body) → size_in rep (sizes_of b) ≡ size rep b
 size_is Native b = refl
 size_is External32 b = refl
@@ -160,6 +153,13 @@ back64 x fits = to_z-of_z w64 x (record { sfits = fits })
 pub back128 : (x : ℤ) → mag x < 170141183460469231731687303715884105728 → to_z w128 (of_z w128 x) ≡ x
 back128 x fits = to_z-of_z w128 x (record { sfits = fits })
 
+pub again : (x : ℤ) → nat_abs x < 2 ^ 63 → to_z w64 (of_z w64 x) ≡ x
+again x near = to_z-of_z w64 x (fits_signed_from_abs w64 x near)
+
+pub sought_again : (code : List Instr) (rep : Rep) (frames : List Frame) (at : ℕ) (x : ℤ) (left : ℕ) (body : Body) (es : List Entry) → to_z w64 (of_z w64 x) ≡ x
+    → IsSought code rep frames at x left body es → IsSought code rep frames at (to_z w64 (of_z w64 x)) left body es
+sought_again code rep frames at x left body es back = subst (λ y. IsSought code rep frames at y left body es) (sym back)
+
 pub framed : (new frames : List Frame) (at turn copy : ℕ) (y x : ℤ) → new ≡ (record { instr = at; turn = turn; base = y; copy = copy }) ∷ frames → y ≡ x
     → new ≡ (record { instr = at; turn = turn; base = x; copy = copy }) ∷ frames
 framed new frames at turn copy y x is same = is ∙ ap (λ z. (let f : Frame = record { instr = at; turn = turn; base = z; copy = copy } in f) ∷ frames) same
@@ -171,6 +171,7 @@ narrowed_twice code rep outer left es round mid r frames inner y less m = record
   body = m.body;
   inside = m.inside;
   sought = m.sought;
+  near = m.near;
   gone = r.gone ++ m.gone;
   all = r.all ∙ ap (λ s. r.gone ++ s) m.all ∙ sym (append_assoc r.gone m.gone m.inside);
   place = let first = r.place in let then = m.place in let both = total-append rep r.gone m.gone in omega (arith, first, then, both);

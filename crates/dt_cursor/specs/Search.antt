@@ -1,5 +1,5 @@
 -- How a packed byte is found.
-use Rattle.std.specs.Prelude.{◌≡◌, Some, ℕ, ◌+◌, ◌*◌, ◌<◌, ◌≤◌, ℤ, List, [], ◌∷◌, ◌++◌, length, take, slice_get}
+use Rattle.std.specs.Prelude.{◌≡◌, Some, ℕ, ◌+◌, ◌*◌, ◌^◌, ◌<◌, ◌≤◌, ℤ, nat_abs, List, [], ◌∷◌, ◌++◌, length, take, slice_get}
 use Rattle.dt_cursor.specs.declared.frames.Frame.{Frame}
 use Rattle.dt_cursor.specs.declared.parts.PartTurn.{PartTurn}
 use Rattle.dt_cursor.specs.declared.spots.SpotCopy.{SpotCopy}
@@ -41,11 +41,12 @@ pub record IsSought (code : List Instr) (rep : Rep) (frames : List Frame) (at : 
   pub most : left ≤ size rep body
   pub inner : 0 < length frames → left < size rep body
 
--- a packed byte of elements is sought further on in them, in a body further in
+-- a packed byte of elements is sought further on in them, in a body further in, whose offset is in range
 pub record IsNarrowed (code : List Instr) (rep : Rep) (es : List Entry) (left : ℕ) (frames : List Frame) (at : ℕ) (x : ℤ) (less : ℕ) : Type 0 where
   pub body : Body
   pub inside : List Entry
   pub sought : IsSought code rep frames at x less body inside
+  pub near : nat_abs x < 2 ^ 63
   pub gone : List Entry
   pub all : es ≡ gone ++ inside
   pub place : left ≡ total rep gone + less
@@ -61,6 +62,16 @@ IsStep code rep old at x left new (In inner) =
 abbrev pub AreReads : ℕ → ℕ → ℕ → ℕ → Step → Type 0
 AreReads len from before after (At held) = after + from ≤ before + len
 AreReads len from before after (In inner) = (from ≤ inner.at) × (after + from ≤ before + inner.at)
+
+-- the search goes on behind a place
+abbrev pub GoesOn : ℕ → Step → Type 0
+GoesOn at (At held) = Unit {0}
+GoesOn at (In inner) = at < inner.at
+
+-- the search goes on at the next place
+abbrev pub EntersNext : ℕ → Step → Type 0
+EntersNext at (At held) = Unit {0}
+EntersNext at (In inner) = inner.at ≡ at + 1
 
 abbrev pub size_in : Rep → Sizes → ℕ
 size_in Native sizes = sizes.native

@@ -50,6 +50,13 @@ impl Frames {
         self.levels.push(frame);
     }
 
+    /// Leaves all levels.
+    pub(crate) fn clear(&mut self)
+        ensures { self.new ≡ [] }
+    {
+        self.levels.clear();
+    }
+
     /// The innermost level.
     pub(crate) fn innermost(&self) -> Option<Frame>
         ensures { result ≡ slice_get self.now 0 }

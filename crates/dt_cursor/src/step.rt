@@ -1,6 +1,6 @@
 //! One level of the search for a packed byte.
 ghost use Rattle.std.specs.Prelude.{◌≡◌, ℕ, ◌+◌, ◌*◌, ◌^◌, ◌<◌, ◌≤◌, ◌+ℤ◌, nat_abs, Some, slice_get, List, IfSome, IfNone, length};
-ghost use Rattle.dt_cursor.specs.Search.{IsNarrowed, IsSought, IsStep, IsTurnSought, size_in};
+ghost use Rattle.dt_cursor.specs.Search.{EntersNext, IsFound, IsNarrowed, IsSought, IsStep, IsTurnSought, size_in};
 ghost use Rattle.dt_kinds.specs.declared.kind.Rep as reps;
 ghost use Rattle.dt_kinds.specs.Kind.{packed_size};
 ghost use Rattle.dt_layout.specs.Body.{Body};
@@ -84,7 +84,7 @@ pub(crate) fn moved(base: i64, by: i128) -> i64
     (i128::from(base) + by) as i64
 }
 
-/// At an element.
+/// At an element: its frame is pushed where it holds the byte, and else the byte is the end.
 pub(crate) fn at_one(
     kind: Kind,
     rep: Rep,
@@ -92,12 +92,13 @@ pub(crate) fn at_one(
     base: i64,
     left: u64,
     frames: &mut Frames,
-) -> Step
+) -> u8
     requires { (code : List instr.Instr) × (body : Body) × (es : List entry.Entry) × (slice_get code at ≡ Some (One kind)) × IsSought code rep frames.old at base left body es }
-    ensures { (code : List instr.Instr) → slice_get code at ≡ Some (One kind) → IsStep code rep frames.old at base left frames.new result }
+    ensures { (code : List instr.Instr) (body : Body) (es : List entry.Entry) → slice_get code at ≡ Some (One kind) → IsSought code rep frames.old at base left body es
+        → IsFound code rep es left frames.new result }
 {
     if left >= bytes_of(kind, rep) {
-        return Step::At(0);
+        return 0;
     }
     frames.push(Frame {
         instr: at,
@@ -105,7 +106,7 @@ pub(crate) fn at_one(
         base,
         copy: 0,
     });
-    Step::At(left as u8)
+    left as u8
 }
 
 /// Into a turn of a loop that stands at a place: the one that holds a byte of the loop.
@@ -148,7 +149,8 @@ pub(crate) fn at_loop(
     frames: &mut Frames,
 ) -> Step
     requires { (code : List instr.Instr) × (body : Body) × (es : List entry.Entry) × (slice_get code at ≡ Some (Loop turns.now sizes next)) × IsSought code rep frames.old at base left body es }
-    ensures { (code : List instr.Instr) → slice_get code at ≡ Some (Loop turns.now sizes next) → IsStep code rep frames.old at base left frames.new result }
+    ensures step { (code : List instr.Instr) → slice_get code at ≡ Some (Loop turns.now sizes next) → IsStep code rep frames.old at base left frames.new result }
+    ensures enters { EntersNext at result }
 {
     let Some(turn) = share(left, turns.count, size_by(sizes, rep)) else {
         return Step::At(0);

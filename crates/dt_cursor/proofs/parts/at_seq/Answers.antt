@@ -1,5 +1,4 @@
-use Rattle.std.proofs.Common.{◌≡◌, ◌+◌, ◌*◌, ◌<◌, ◌≤◌, ◌∷◌, arith, ap, subst, sym, refl, ◌∙◌, length}
-use Rattle.dt_cursor.specs.Search.{IsNarrowed}
+use Rattle.std.proofs.Common.{◌+◌, ◌*◌, arith, refl}
 use Rattle.dt_layout.specs.Body.{seq, size}
 use Rattle.dt_cursor.proofs.IntoParts.{parts_here, parts_are_wide, into_part, turn_of_part}
 use Rattle.dt_cursor.proofs.Narrowing.{ended, sought_seq, back64, framed, narrowed_twice}
@@ -44,9 +43,14 @@ into_turn-requires-clause-sought g c =
     let t = c.in-Some.ensures.some s.0 stand s.2 in
     let n = into_part (g.C.Code.program c.args.code.now) c.args.rep c.args.frames.now c.args.at c.args.base c.args.left r.1 s.0 s.1 c.in-Some.part t in
     let base = back64 c.args.base c.ranges.base.sfits in
-    let pushed = framed c.push.new.self c.args.frames.now c.args.at c.in-Some.part.place 0 _ c.args.base c.push.ensures base in
-    (g.C.Code.program c.args.code.now, c.args.rep, c.in-Some.part.turn.number * size c.args.rep t.body + c.in-Some.part.turn.left, t.body, n.inside,
-    turn_of_part (g.C.Code.program c.args.code.now) c.args.rep c.args.frames.now c.args.at c.args.base c.args.left r.1 s.0 s.1 c.in-Some.part t c.push.new.self pushed _ base)
+    let pushed = framed c.push.new.self c.args.frames.now c.args.at c.in-Some.part.place 0 _ c.args.base c.push.ensures base in (
+      g.C.Code.program c.args.code.now,
+      c.args.rep,
+      c.in-Some.part.turn.number * size c.args.rep t.body + c.in-Some.part.turn.left,
+      t.body,
+      n.inside,
+      turn_of_part (g.C.Code.program c.args.code.now) c.args.rep c.args.frames.now c.args.at c.args.base c.args.left r.1 s.0 s.1 c.in-Some.part t c.push.new.self pushed _ base,
+    )
 
 pub returns-clause-step : goal.returns-clause-step
 returns-clause-step g c body es sought =

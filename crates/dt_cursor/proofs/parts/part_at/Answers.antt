@@ -1,6 +1,6 @@
 use Rattle.std.proofs.Common.{◌≡◌, ◌+◌, ◌-◌, ◌*◌, ◌<◌, ◌≤◌, Some, arith, ap, subst, sym, ◌∙◌, slice_get, length}
 use Rattle.dt_layout.specs.Body.{number_of}
-use Rattle.dt_cursor.proofs.IntoParts.{IsRest, part_within, part_is_loop, rest_at_first, rest_goes_on, part_holds, place_fits, parts_are_passed}
+use Rattle.dt_cursor.proofs.IntoParts.{IsRest, part_within, part_is_loop, rest_goes_on, part_holds, place_fits, parts_are_passed}
 use Rattle.dt_cursor.proofs.parts.part_at.Goals as goal
 
 pub at-requires : goal.at-requires

@@ -1,9 +1,9 @@
 use mir.Syntax.{w64, w128}
 use mir.Val.{to_z, of_z}
-use Rattle.std.proofs.Common.{◌≡◌, ◌+◌, ◌<◌, ◌+ℤ◌, nat_abs, arith, ap, ◌∙◌, subst, sym}
+use Rattle.std.proofs.Common.{◌+◌, ◌<◌, ◌+ℤ◌, nat_abs, ap, ◌∙◌, subst, sym}
 use Rattle.dt_cursor.specs.Search.{IsNarrowed}
 use Rattle.dt_offsets.specs.Offsets.{turn_offset}
-use Rattle.dt_cursor.proofs.Narrowing.{into_turn, near, back64, back128, framed}
+use Rattle.dt_cursor.proofs.Narrowing.{into_turn, back64, back128, framed}
 use Rattle.dt_cursor.proofs.step.into_turn.Goals as goal
 
 pub moved-requires : goal.moved-requires
@@ -14,7 +14,7 @@ moved-requires c =
     let base = back64 c.args.base c.ranges.base.sfits in
     let by = back128 c.turn_at-by.result c.turn_at-by.type_inv ∙ c.turn_at-by.ensures in
     subst (λ x. nat_abs x < 9223372036854775808) (ap (λ x. x +ℤ turn_offset c.args.turns.now c.args.turn.number) (sym base) ∙ ap (λ y. to_z w64 (of_z w64 c.args.base) +ℤ y) (sym by))
-    (near r.0 r.1 r.4 r.2 _ c.args.frames.now (c.args.at + 1) (c.args.base +ℤ turn_offset c.args.turns.now c.args.turn.number) c.args.turn.left n)
+    n.near
 
 pub returns-clause-narrowed : goal.returns-clause-narrowed
 returns-clause-narrowed c code rep left body es s =
