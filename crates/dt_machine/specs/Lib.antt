@@ -1,4 +1,5 @@
 pub mod Answers
+pub mod Best
 pub mod Choice
 pub mod Laws
 pub mod Made
