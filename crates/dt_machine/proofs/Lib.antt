@@ -10,3 +10,4 @@ pub mod Rebuilding
 pub mod Rows
 pub mod Telling
 pub mod TypeWords
+pub mod Widths

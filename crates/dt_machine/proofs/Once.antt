@@ -95,7 +95,6 @@ performs_one (Bytes rep count ty buffer origin) s t u reply other none (kept, he
     let one : held ≡ held2 = cc in
     let text = ap (λ (x : Kept). Packed (packed rep (elements_of x count origin) held)) same ∙ ap (λ (x : List ℕ). Packed (packed rep (elements_of kept2 count origin) x)) one in
     (c ∙ (text ∙ sym g), d ∙ sym h)
-
 performs_one (Weights leaf vector index place group part) s t u reply other none p q = (p.0 ∙ sym q.0, p.1 ∙ sym q.1)
 performs_one (Normalise ty) s t u reply other none (kept, base, tree, a, b, c, d) (kept2, base2, tree2, e, f, g, h) =
     let few = no_choice s.weights (entries_of kept.ty) base tree (λ some. none (some_and (type_of s ty) HasEntries kept a some)) b in

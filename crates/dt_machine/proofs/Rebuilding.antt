@@ -1,7 +1,8 @@
 -- No constructor refuses that rebuilds a type, and what it makes places what the type does.
-use Rattle.std.proofs.Common.{◌≡◌, ℕ, ◌≤◌, ◌<◌, ◌^◌, ℤ, pos, ◌-ℤ◌, ◌≤ℤ◌, ◌<ℤ◌, List, [], ◌∷◌, length, Option, Some, None, inl, inr, refl, sym, ap, subst, ◌∙◌, arith}
+use Rattle.std.proofs.Common.{◌≡◌, ℕ, ◌≤◌, ◌<◌, ◌^◌, ℤ, pos, ◌-ℤ◌, ◌≤ℤ◌, ◌<ℤ◌, List, [], ◌∷◌, length, Option, Some, None, inl, inr, refl, sym, ap, subst, ◌∙◌, arith, Bor}
 use Rattle.std.proofs.lemmas.Int.{ints, by_lt_z}
 use Rattle.std.specs.List.{AllByRecursion}
+use Rattle.std.specs.Option.{option_copied, option_map}
 use Rattle.dt_form.specs.declared.form.FormOf.{FormOf}
 use Rattle.dt_form.specs.declared.form.FormOf.TheVariants.{Named}
 use Rattle.dt_kinds.specs.declared.kind.Kind.TheVariants.{Byte}
@@ -15,6 +16,9 @@ use Rattle.dt_rebuild.specs.Built.{form_at, built, placed_by, all_forms}
 use Rattle.dt_rebuild.proofs.Built.{marked_places, built_has_entries}
 use Rattle.dt_rebuild.proofs.Measures.{one_deeper, one_heavier}
 use Rattle.dt_rebuild.proofs.Taking.{tidy_is_taken}
+use Rattle.dt_tree.specs.declared.node.Node.{Node}
+use Rattle.dt_tree.specs.declared.tree.Tree.{Tree as Program}
+use Rattle.dt_tree.specs.Node.{tree_of}
 use Rattle.dt_tree.specs.Tree.{Tree}
 use Rattle.dt_tree.specs.Weights.{Weights}
 use Rattle.dt_type.specs.Answer.{IsCause}
@@ -40,6 +44,11 @@ first_is_memory (form ∷ forms) fault all (inr more) = first_is_memory forms fa
 pub only_memory : (forms : List (FormOf Seen)) (fault : CtorFault) → AllByRecursion IsTaken forms → IsRefusalIn forms fault → fault ≡ NoMemory
 only_memory forms fault all (inl is) = is
 only_memory forms fault all (inr c) = first_is_memory forms fault all c
+
+-- the tree that is lent, where there is one
+pub lent_by : (lent : Option (Bor Program)) (tree : Option Node) → option_copied lent ≡ tree → option_map (λ t. tree_of t.now) lent ≡ option_map tree_of tree
+lent_by None tree is = ap (option_map tree_of) is
+lent_by (Some t) tree is = ap (option_map tree_of) is
 
 abbrev marked : List Entry → Option Marks → Marked
 marked es marks = record { entries = es; marks = marks }

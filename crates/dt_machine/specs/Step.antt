@@ -59,7 +59,6 @@ Performs (Show buffer) s reply t = (bytes : List ℕ) × (buffer_of s buffer ≡
 Performs (Bytes rep count ty buffer origin) s reply t =
     (kept : Kept) × (bytes : List ℕ) × (type_of s ty ≡ Some kept) × (buffer_of s buffer ≡ Some bytes)
     × (reply ≡ Packed (packed rep (elements_of kept count origin) bytes)) × (t ≡ with_count s)
-
 -- trees are weighed so from now on
 Performs (Weights leaf vector index place group part) s reply t =
     (reply ≡ Done) × (t ≡ with_count (with_weights s (weights_by leaf vector index place group part)))

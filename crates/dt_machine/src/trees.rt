@@ -86,6 +86,16 @@ fn told_best(alloc: Global, best: &Best) -> Result<Reply, NoMemory>
     })
 }
 
+/// The fault that is want of memory.
+fn only_memory(fault: CtorFault) -> NoMemory
+    requires { fault ≡ CtorFault.NoMemory }
+{
+    match fault {
+        CtorFault::NoMemory => NoMemory,
+        _ => unreachable!(),
+    }
+}
+
 impl Machine {
     /// `weights LEAF VECTOR INDEX PLACE GROUP PART`
     pub(crate) fn weigh(
@@ -151,8 +161,7 @@ impl Machine {
     {
         match to_type(self.alloc, best.base, best.tree.as_ref(), ty.marks()) {
             Ok(ty) => Ok(ty),
-            Err(CtorFault::NoMemory) => Err(NoMemory),
-            Err(_) => unreachable!(),
+            Err(fault) => Err(only_memory(fault)),
         }
     }
 

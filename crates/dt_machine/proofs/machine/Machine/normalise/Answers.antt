@@ -18,7 +18,13 @@ returns c =
     let best = c.in-Ok-best.best in
     let told = best_told s.weights (entries_of kept.ty) best.base best.tree best.cost best.lows.items c.in-Ok-best.ensures.1 in
     outcome_of s (Normalise c.args.ty.now) c.in_ok-reply.reply (AddCost best.cost) _
-    (normalise_allowed s c.args.ty.now kept c.in-Ok.ensures c.in-Ok-best.ensures.0) tt
-    (kept, best.base, tree_in best, c.in-Ok.ensures, told.0, c.in_ok-reply.ensures ∙ told_by s.weights best.base (tree_in best) best.cost told.1,
-        ap (λ n. with_count (with_cost s n)) told.1)
+    (normalise_allowed s c.args.ty.now kept c.in-Ok.ensures c.in-Ok-best.ensures.0) tt (
+      kept,
+      best.base,
+      tree_in best,
+      c.in-Ok.ensures,
+      told.0,
+      c.in_ok-reply.ensures ∙ told_by s.weights best.base (tree_in best) best.cost told.1,
+      ap (λ n. with_count (with_cost s n)) told.1,
+    )
     (rw c.in_ok-reply.ensures refl) refl

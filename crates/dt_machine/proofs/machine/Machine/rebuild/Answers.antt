@@ -24,7 +24,13 @@ returns c =
     let derived : is_basic ty ≡ false = ap is_basic c.in_ok-ty.ensures ∙ built_derived best.base (tree_in best) (marks_of kept.ty) in
     outcome_of s (Rebuild c.args.name.now c.args.ty.now) c.in_ok-reply.reply (AddType c.args.name.now (record { ty = ty; committed = false })) _
     (rebuild_allowed s c.args.name.now c.args.ty.now c.in_default.ensures kept c.in-Ok.ensures narrow room c.in-Ok-best.ensures.0)
-    (rebuild_can s c.args.name.now c.args.ty.now c.in_default.ensures kept c.in-Ok.ensures ty derived room)
-    (kept, best.base, tree_in best, c.in-Ok.ensures, told.0, c.in_ok-reply.ensures ∙ told_by s.weights best.base (tree_in best) best.cost told.1,
-        ap (λ t. with_count (with_type s c.args.name.now (record { ty = t; committed = false }))) c.in_ok-ty.ensures)
+    (rebuild_can s c.args.name.now c.args.ty.now c.in_default.ensures kept c.in-Ok.ensures ty derived room) (
+      kept,
+      best.base,
+      tree_in best,
+      c.in-Ok.ensures,
+      told.0,
+      c.in_ok-reply.ensures ∙ told_by s.weights best.base (tree_in best) best.cost told.1,
+      ap (λ t. with_count (with_type s c.args.name.now (record { ty = t; committed = false }))) c.in_ok-ty.ensures,
+    )
     (rw c.in_ok-reply.ensures refl) (rw c.in_ok-name.ensures.same refl)
