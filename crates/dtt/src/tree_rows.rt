@@ -1,5 +1,5 @@
 //! Scripts about least trees and their replies, worked by hand from the rules. Each tree that a row names is the only least one.
-use crate::rows::{Row, check};
+use crate::rows::Row;
 use crate::tests::replies;
 use dt_machine::Machine;
 use std::alloc::Global;
@@ -80,6 +80,118 @@ ok\ntree cost 1 base 0 leaf MPI_INT\nmap 1 marks -4 16 MPI_INT@0\ncontents integ
 rebuild m = i\nbytes native 2 i b 0\nbytes native 2 m b 0\n",
         0,
         "ok\nok\nok\ntree cost 4 base 0 vector 3 2 20 leaf MPI_INT\n\
-bytes 48 00010203040506071415161718191a1b28292a2b2c2d2e2f32333435363738394647 48494a4b4c4d5a5b5c5d5e5f6061\n",
+bytes 48 00010203040506071415161718191a1b28292a2b2c2d2e2f3233343536373839464748494a4b4c4d5a5b5c5d5e5f6061\n\
+bytes 48 00010203040506071415161718191a1b28292a2b2c2d2e2f3233343536373839464748494a4b4c4d5a5b5c5d5e5f6061\n\
+tree cost 4 base 0 vector 3 2 20 leaf MPI_INT\n\
+bytes 48 00010203040506071415161718191a1b28292a2b2c2d2e2f30313233343536374445464748494a4b58595a5b5c5d5e5f\n\
+bytes 48 00010203040506071415161718191a1b28292a2b2c2d2e2f30313233343536374445464748494a4b58595a5b5c5d5e5f\n",
     ),
 ];
+
+/// Refusals, where several conditions hold too: the least number is replied.
+const REFUSALS: [Row; 3] = [
+    (
+        "type v = dup MPI_INT\nrebuild MPI_X = none\nrebuild v = none\nrebuild MPI_X = MPI_REAL\nrebuild v = MPI_REAL\nrebuild x = MPI_REAL\n\
+rebuild v = v\nnormalise none\nnormalise MPI_REAL\nnormalise v v\nnormalise\nrebuild x v\nrebuild x = v v\nrebuild x = MPI_INT\nfree x\n",
+        1,
+        "ok\nrefused 2 unknown name\nrefused 2 unknown name\nrefused 3 name taken\nrefused 3 name taken\nrefused 4 unsupported kind\n\
+refused 3 name taken\nrefused 2 unknown name\nrefused 4 unsupported kind\nrefused 1 syntax\nrefused 1 syntax\nrefused 1 syntax\nrefused 1 syntax\n\
+tree cost 1 base 0 leaf MPI_INT\nok\n",
+    ),
+    // A true extent of 2^59 and of one byte more; and one of more than 1,024 entries.
+    (
+        "type a = hvector 2 1 600000000000000000 MPI_BYTE\nnormalise a\nrebuild r = a\n\
+type b = hvector 2 1 576460752303423487 MPI_BYTE\nrebuild r = b\ntype c = hvector 2 1 576460752303423488 MPI_BYTE\nrebuild s = c\n\
+type w = hvector 1025 1 1000000000000000 MPI_BYTE\nrebuild a = w\nrebuild s = w\nnormalise w\n",
+        1,
+        "ok\ntree cost 4 base 0 vector 2 1 600000000000000000 leaf MPI_BYTE\nrefused 10 overflow\n\
+ok\ntree cost 4 base 0 vector 2 1 576460752303423487 leaf MPI_BYTE\nok\nrefused 10 overflow\n\
+ok\nrefused 3 name taken\nrefused 10 overflow\nrefused 14 too many entries\n",
+    ),
+    // Without its marks a type would end at 2^60 + 3, and with one entry less to pad at 2^60.
+    (
+        "type i = resized 0 4 MPI_INT\ntype s = struct 1@1152921504606846972@i 1@1152921504606846967@MPI_BYTE\nnormalise s\nrebuild x = s\n\
+type t = struct 1@1152921504606846972@i 1@1152921504606846968@MPI_BYTE\nrebuild x = t\nmap x\n",
+        1,
+        "ok\nok\ntree cost 8 base 1152921504606846972 struct 2 1 0 leaf MPI_INT 1 -5 leaf MPI_BYTE\nrefused 10 overflow\n\
+ok\ntree cost 8 base 1152921504606846972 struct 2 1 0 leaf MPI_INT 1 -4 leaf MPI_BYTE\n\
+map 2 marks 1152921504606846972 1152921504606846976 MPI_INT@1152921504606846972 MPI_BYTE@1152921504606846968\n",
+    ),
+];
+
+#[test]
+fn trees(rt: HostRuntime) -> Result<(), Fail> {
+    for (script, status, text) in TREES
+        .iter()
+        .chain(&WEIGHTS)
+        .chain(&REBUILT)
+        .chain(&REFUSALS)
+    {
+        let (was, wrote) = replies(rt.alloc(), script.as_bytes())?;
+        assert_eq!(rt; was, *status, "{script}");
+        assert_eq!(rt; wrote.as_slice(), text.as_bytes(), "{script}");
+    }
+    Ok(())
+}
+
+/// Several trees are least here: each reply begins in one way.
+#[test]
+fn one_cost_of_several_trees(rt: HostRuntime) -> Result<(), Fail> {
+    let alloc = rt.alloc();
+    let rows: [(&str, &str); 2] = [
+        ("type g = contiguous 1024 MPI_BYTE\nnormalise g\n", "ok\ntree cost 4 base 0 "),
+        (
+            "type d = hindexed_block MPI_INT 1 0 4 8 20 24 28 50\nweights 0 0 0 0 0 0\nnormalise d\n",
+            "ok\nok\ntree cost 0 base 0 ",
+        ),
+    ];
+    for (script, front) in rows {
+        let (status, wrote) = replies(alloc, script.as_bytes())?;
+        assert_eq!(rt; status, 0);
+        assert!(rt; wrote.starts_with(front.as_bytes()), "{script}");
+    }
+    Ok(())
+}
+
+/// A script that fills all places for types, the last one with a type of 1,025 entries and the last but one with one that is too wide.
+fn full(alloc: Global) -> Result<String, Fail> {
+    let mut script = String::new(alloc);
+    for number in 0..1022 {
+        write!(script, "type t{number} = dup MPI_INT\n")?;
+    }
+    script.push_str("type w = hvector 2 1 600000000000000000 MPI_BYTE\ntype f = contiguous 1025 MPI_BYTE\n")?;
+    Ok(script)
+}
+
+/// Where no more types may stand: after what is too wide, and before what has too many entries.
+#[test]
+fn no_place_for_a_rebuilt_type(rt: HostRuntime) -> Result<(), Fail> {
+    let alloc = rt.alloc();
+    let mut script = full(alloc)?;
+    script.push_str("rebuild x = f\nrebuild x = w\nrebuild x = t0\nfree t1\nrebuild x = f\nrebuild x = t0\nrebuild y = t0\n")?;
+    let (status, wrote) = replies(alloc, script.as_bytes())?;
+    assert_eq!(rt; status, 1);
+    let text = b"ok\nrefused 13 too many names\nrefused 10 overflow\nrefused 13 too many names\nok\nrefused 14 too many entries\n\
+tree cost 1 base 0 leaf MPI_INT\nrefused 13 too many names\n";
+    assert!(rt; wrote.ends_with(text));
+    Ok(())
+}
+
+/// The weights in force, and the costs that are added up: those of `normalise` alone, where it isn't refused.
+#[test]
+fn costs(rt: HostRuntime) -> Result<(), Fail> {
+    let mut machine = Machine::new(rt.alloc());
+    let mut out = Vec::new(rt.alloc());
+    assert_eq!(rt; machine.weights().vector(), 3);
+    assert!(rt; machine.line(b"type v = vector 3 1 2 MPI_INT", &mut out)?);
+    assert!(rt; machine.line(b"normalise v", &mut out)?);
+    assert!(rt; machine.line(b"rebuild n = v", &mut out)?);
+    assert!(rt; !machine.line(b"normalise none", &mut out)?);
+    assert!(rt; machine.line(b"weights 1 20 30 40 50 60", &mut out)?);
+    assert!(rt; !machine.line(b"weights 1 1000001 30 40 50 60", &mut out)?);
+    assert_eq!(rt; machine.weights().vector(), 20);
+    assert!(rt; machine.line(b"normalise n", &mut out)?);
+    assert_eq!(rt; machine.totals().cost, 25);
+    assert_eq!(rt; machine.totals().commands, 5);
+    Ok(())
+}
