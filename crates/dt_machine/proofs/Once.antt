@@ -1,5 +1,5 @@
 -- A step is a function, and so are the answers to an input.
-use Rattle.std.proofs.Common.{◌≡◌, ℕ, ◌<◌, ℤ, pos, false, Bool, cond, List, [], ◌∷◌, length, Option, Some, None, inl, inr, refl, sym, ap, subst, ◌∙◌, arith}
+use Rattle.std.proofs.Common.{◌≡◌, ℕ, ◌<◌, ℤ, pos, false, cond, List, [], ◌∷◌, length, Option, Some, None, inl, inr, refl, sym, ap, subst, ◌∙◌, arith}
 use Rattle.std.proofs.lemmas.Bool.{cases_lt}
 use Rattle.std.specs.List.{AllByRecursion}
 use Rattle.std.specs.Option.{IsSomeAnd}
@@ -24,13 +24,13 @@ use Rattle.dt_type.specs.Form.{result_of}
 use Rattle.dt_names.specs.declared.kept.Kept.{Kept}
 use Rattle.dt_rebuild.specs.Built.{built}
 use Rattle.dt_tree.specs.Tree.{Tree}
-use Rattle.dt_machine.specs.Answers.{Run, Answers, text_of_all, are_accepted}
+use Rattle.dt_machine.specs.Answers.{Run, text_of_all, are_accepted}
 use Rattle.dt_machine.specs.Choice.{cost_told, tells}
 use Rattle.dt_machine.specs.Laws.{sought, Chooses, StepIsFunction, AnswersAreOne}
 use Rattle.dt_machine.specs.Made.{form_in, is_committed_by}
 use Rattle.dt_machine.specs.Refusal.{elements_of, IsRefusedBy}
 use Rattle.dt_machine.specs.State.{State, first_state, type_of, buffer_of, with_type, with_committed, with_cost, with_count}
-use Rattle.dt_machine.specs.Step.{Performs, Obeys, Meets, Step}
+use Rattle.dt_machine.specs.Step.{Performs, Obeys, Meets}
 use Rattle.dt_machine.proofs.Rows.{some_and}
 use Rattle.dt_machine.proofs.Telling.{no_choice}
 

@@ -1,5 +1,5 @@
 -- No constructor refuses that rebuilds a type, and what it makes places what the type does.
-use Rattle.std.proofs.Common.{◌≡◌, ℕ, ◌≤◌, ◌<◌, ◌^◌, ℤ, pos, ◌-ℤ◌, ◌≤ℤ◌, ◌<ℤ◌, List, [], ◌∷◌, length, Option, Some, None, inl, inr, refl, sym, ap, subst, ◌∙◌, arith, Bor}
+use Rattle.std.proofs.Common.{◌≡◌, ◌≤◌, ◌^◌, ℤ, pos, ◌-ℤ◌, ◌≤ℤ◌, ◌<ℤ◌, List, [], ◌∷◌, length, Option, Some, None, inl, inr, refl, sym, ap, subst, ◌∙◌, arith, Bor}
 use Rattle.std.proofs.lemmas.Int.{ints, by_lt_z}
 use Rattle.std.specs.List.{AllByRecursion}
 use Rattle.std.specs.Option.{option_copied, option_map}
@@ -12,7 +12,7 @@ use Rattle.dt_map.specs.Limits.{IsInRange, MarksFit}
 use Rattle.dt_map.specs.Typemap.{Marked}
 use Rattle.dt_offsets.specs.declared.marks.Marks.{Marks}
 use Rattle.dt_rebuild.specs.Answer.{IsTaken, IsFirstCause, IsRefusalIn}
-use Rattle.dt_rebuild.specs.Built.{form_at, built, placed_by, all_forms}
+use Rattle.dt_rebuild.specs.Built.{form_at, built, all_forms}
 use Rattle.dt_rebuild.proofs.Built.{marked_places, built_has_entries}
 use Rattle.dt_rebuild.proofs.Measures.{one_deeper, one_heavier}
 use Rattle.dt_rebuild.proofs.Taking.{tidy_is_taken}

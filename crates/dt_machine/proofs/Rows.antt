@@ -1,5 +1,5 @@
 -- The first condition of a rising row that holds has the least number whose condition holds.
-use Rattle.std.proofs.Common.{◌≡◌, ℕ, ◌<◌, ◌≤◌, ◌==◌, Bool, true, false, cond, nat_lt, ◌&&◌, List, [], ◌∷◌, ◌++◌, Option, Some, refl, sym, ap, subst, ◌∙◌, ◌↔◌, eqb-true, arith}
+use Rattle.std.proofs.Common.{◌≡◌, ℕ, ◌<◌, ◌==◌, Bool, true, false, cond, nat_lt, [], ◌∷◌, ◌++◌, Option, Some, refl, sym, subst, ◌∙◌, ◌↔◌, eqb-true, arith}
 use Rattle.std.proofs.lemmas.Bool.{and_parts, eq-eqb, ltb-true}
 use Rattle.std.specs.Option.{IsSomeAnd}
 use Rattle.dt_reply.specs.declared.refusal.Refusal.{Refusal}

@@ -2,11 +2,9 @@
 use Rattle.std.proofs.Common.{◌≡◌, ℕ, ◌≤◌, ◌<◌, ℤ, pos, false, List, [], length, Option, Some, None, refl, sym, ap, subst, ◌∙◌, arith}
 use Rattle.std.proofs.lemmas.List.{length-map}
 use Rattle.dt_map.specs.declared.entry.Entry.{Entry}
-use Rattle.dt_map.specs.Typemap.{shift, shift_entry}
+use Rattle.dt_map.specs.Typemap.{shift_entry}
 use Rattle.dt_rebuild.specs.Built.{built}
-use Rattle.dt_reply.specs.declared.reply.Reply.{Reply}
 use Rattle.dt_reply.specs.declared.reply.Reply.TheVariants.{Least}
-use Rattle.dt_script.specs.declared.command.Command.{Command}
 use Rattle.dt_script.specs.declared.command.Command.TheVariants.{Normalise, Rebuild}
 use Rattle.dt_tree.specs.Cost.{cost_of}
 use Rattle.dt_tree.specs.Tree.{Tree, flat, Denotes}
@@ -14,10 +12,9 @@ use Rattle.dt_tree.specs.Weights.{Weights}
 use Rattle.dt_tree.proofs.Subtrees.{places_an_entry}
 use Rattle.dt_type.specs.Datatype.{entries_of, marks_of}
 use Rattle.dt_names.specs.declared.kept.Kept.{Kept}
-use Rattle.dt_machine.specs.Choice.{MayBeTold, cost_told, text_told, tells}
-use Rattle.dt_machine.specs.Laws.{sought, ToldIsLeast, NormaliseTellsOneCost, RebuiltPlacesTheSame, RebuiltIsTaken}
-use Rattle.dt_machine.specs.State.{State, type_of, with_cost, with_count}
-use Rattle.dt_machine.specs.Step.{Performs}
+use Rattle.dt_machine.specs.Choice.{MayBeTold, cost_told, text_told}
+use Rattle.dt_machine.specs.Laws.{ToldIsLeast, NormaliseTellsOneCost, RebuiltPlacesTheSame, RebuiltIsTaken}
+use Rattle.dt_machine.specs.State.{type_of, with_cost, with_count}
 use Rattle.dt_machine.proofs.Rebuilding.{rebuilt_taken, rebuilt_places}
 
 -- a tree that stands for entries: there are some

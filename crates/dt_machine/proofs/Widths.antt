@@ -1,5 +1,5 @@
 -- Entries that are too wide for a datatype of their tree, by bounds in range.
-use Rattle.std.proofs.Common.{◌≡◌, ℕ, ◌<◌, ◌≤◌, ◌^◌, true, false, ℤ, pos, nat_abs, ◌-ℤ◌, ◌<ℤ◌, List, inl, inr, sym, ap, subst, ◌∙◌, arith, int_lt}
+use Rattle.std.proofs.Common.{◌≡◌, ◌≤◌, true, false, ℤ, pos, nat_abs, ◌-ℤ◌, List, inl, inr, sym, ap, subst, ◌∙◌, arith, int_lt}
 use Rattle.std.proofs.lemmas.Int.{ints}
 use Rattle.std.proofs.lemmas.Bool.{true_from_ne_false}
 use mir.Syntax.{w64, w128}

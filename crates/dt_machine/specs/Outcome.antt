@@ -1,7 +1,5 @@
 -- What a command comes to before anything changes. No public clause cites this module.
 use Rattle.std.specs.Prelude.{◌≡◌, true, false, IsTrue, List, ℕ, ◌<◌, Option, Some, None, IsSome, Result, MatchResult}
-use Rattle.dt_kinds.specs.Name.{is_left_out}
-use Rattle.dt_reply.specs.declared.refusal.Refusal.{Refusal}
 use Rattle.dt_reply.specs.declared.refusal.Refusal.TheVariants as refusal
 use Rattle.dt_reply.specs.Reply.{is_accepted}
 use Rattle.dt_script.specs.declared.command.Command.{Command}
@@ -15,7 +13,7 @@ use Rattle.dt_names.specs.declared.stop.Stop.{Stop}
 use Rattle.dt_names.specs.declared.stop.Stop.TheVariants.{Refused, NoMemory}
 use Rattle.dt_names.specs.declared.kept.Kept.{Kept}
 use Rattle.dt_machine.specs.Refusal.{IsRefusedBy, IsAllowed}
-use Rattle.dt_machine.specs.State.{State, is_unknown, with_type, with_committed, without_type, with_buffer, with_weights, with_cost, with_count}
+use Rattle.dt_machine.specs.State.{State, with_type, with_committed, without_type, with_buffer, with_weights, with_cost, with_count}
 use Rattle.dt_names.specs.Names.{under}
 use Rattle.dt_machine.specs.Step.{Performs}
 

@@ -139,7 +139,10 @@ fn trees(rt: HostRuntime) -> Result<(), Fail> {
 fn one_cost_of_several_trees(rt: HostRuntime) -> Result<(), Fail> {
     let alloc = rt.alloc();
     let rows: [(&str, &str); 2] = [
-        ("type g = contiguous 1024 MPI_BYTE\nnormalise g\n", "ok\ntree cost 4 base 0 "),
+        (
+            "type g = contiguous 1024 MPI_BYTE\nnormalise g\n",
+            "ok\ntree cost 4 base 0 ",
+        ),
         (
             "type d = hindexed_block MPI_INT 1 0 4 8 20 24 28 50\nweights 0 0 0 0 0 0\nnormalise d\n",
             "ok\nok\ntree cost 0 base 0 ",
@@ -159,7 +162,9 @@ fn full(alloc: Global) -> Result<String, Fail> {
     for number in 0..1022 {
         write!(script, "type t{number} = dup MPI_INT\n")?;
     }
-    script.push_str("type w = hvector 2 1 600000000000000000 MPI_BYTE\ntype f = contiguous 1025 MPI_BYTE\n")?;
+    script.push_str(
+        "type w = hvector 2 1 600000000000000000 MPI_BYTE\ntype f = contiguous 1025 MPI_BYTE\n",
+    )?;
     Ok(script)
 }
 
@@ -168,10 +173,13 @@ fn full(alloc: Global) -> Result<String, Fail> {
 fn no_place_for_a_rebuilt_type(rt: HostRuntime) -> Result<(), Fail> {
     let alloc = rt.alloc();
     let mut script = full(alloc)?;
-    script.push_str("rebuild x = f\nrebuild x = w\nrebuild x = t0\nfree t1\nrebuild x = f\nrebuild x = t0\nrebuild y = t0\n")?;
+    script.push_str(
+        "rebuild x = f\nrebuild x = w\nrebuild x = t0\nfree t1\nrebuild x = f\nrebuild x = t0\nrebuild y = t0\n",
+    )?;
     let (status, wrote) = replies(alloc, script.as_bytes())?;
     assert_eq!(rt; status, 1);
-    let text = b"ok\nrefused 13 too many names\nrefused 10 overflow\nrefused 13 too many names\nok\nrefused 14 too many entries\n\
+    let text =
+        b"ok\nrefused 13 too many names\nrefused 10 overflow\nrefused 13 too many names\nok\nrefused 14 too many entries\n\
 tree cost 1 base 0 leaf MPI_INT\nrefused 13 too many names\n";
     assert!(rt; wrote.ends_with(text));
     Ok(())

@@ -1,10 +1,10 @@
-use Rattle.std.proofs.Common.{refl, ap, sym, ◌∙◌}
+use Rattle.std.proofs.Common.{refl, ap, ◌∙◌}
 use Rattle.dt_script.specs.declared.command.Command.TheVariants.{Normalise}
 use Rattle.dt_type.specs.Datatype.{entries_of}
 use Rattle.dt_machine.specs.Best.{tree_in}
 use Rattle.dt_machine.specs.declared.outcome.Change.TheVariants.{AddCost}
 use Rattle.dt_machine.specs.State.{with_cost, with_count}
-use Rattle.dt_machine.proofs.LeastTrees.{normalise_missing, normalise_without, normalise_allowed, best_told, told_by}
+use Rattle.dt_machine.proofs.LeastTrees.{normalise_without, normalise_allowed, best_told, told_by}
 use Rattle.dt_machine.proofs.Outcomes.{outcome_of}
 use Rattle.dt_machine.proofs.machine.Machine.normalise.Goals as goal
 

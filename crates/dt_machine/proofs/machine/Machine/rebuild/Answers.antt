@@ -1,4 +1,4 @@
-use Rattle.std.proofs.Common.{refl, ap, sym, ◌∙◌, ◌≡◌, false}
+use Rattle.std.proofs.Common.{refl, ap, ◌∙◌, ◌≡◌, false}
 use Rattle.dt_script.specs.declared.command.Command.TheVariants.{Rebuild}
 use Rattle.dt_type.specs.Basic.{is_basic}
 use Rattle.dt_type.specs.Datatype.{entries_of, marks_of}

@@ -1,9 +1,8 @@
-use Rattle.std.proofs.Common.{subst, sym, ap, ◌∙◌, ◌≡◌, SFits, rules}
+use Rattle.std.proofs.Common.{subst, sym, SFits, rules}
 use Rattle.std.proofs.lemmas.Int.{to_z-of_z}
 use Rattle.std.specs.Int.{w64}
 use Rattle.dt_map.specs.Limits.{MarksFit}
 use Rattle.dt_type.specs.Datatype.{entries_of, marks_of}
-use Rattle.dt_rebuild.specs.Answer.{IsRefusalIn}
 use Rattle.dt_rebuild.specs.Built.{all_forms}
 use Rattle.dt_machine.specs.Best.{tree_in}
 use Rattle.dt_machine.proofs.LeastTrees.{best_told}
