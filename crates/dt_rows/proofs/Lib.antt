@@ -1,0 +1,5 @@
+pub mod EightBytes
+pub mod Gathering
+pub mod InsideRows
+pub mod Joined
+pub mod RowBytes
