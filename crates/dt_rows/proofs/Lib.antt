@@ -1,4 +1,6 @@
+pub mod Cutting
 pub mod EightBytes
+pub mod Filling
 pub mod Gathering
 pub mod InsideRows
 pub mod Joined
