@@ -4,4 +4,5 @@ pub mod Filling
 pub mod Gathering
 pub mod InsideRows
 pub mod Joined
+pub mod Packing
 pub mod RowBytes

@@ -2,9 +2,11 @@
 #![tactic(auto)]
 
 mod external;
+mod from_buffer;
 mod piece;
 mod pieces;
 pub mod rows;
 mod turned;
 
+pub use from_buffer::gather;
 pub use rows::{Rows, Run};
