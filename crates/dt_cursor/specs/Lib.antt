@@ -1,4 +1,5 @@
 pub mod Frames
+pub mod Kept
 pub mod Laws
 pub mod Rounds
 pub mod Search

@@ -3,6 +3,7 @@
 
 pub mod frames;
 pub mod laws;
+pub mod cursor;
 mod spots;
 mod standing;
 mod step;
