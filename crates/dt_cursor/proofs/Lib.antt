@@ -1,6 +1,9 @@
 pub mod Elements
+pub mod Halfway
 pub mod IntoCopies
 pub mod Narrowing
+pub mod NextRounds
+pub mod Options
 pub mod Placed
 pub mod Reading
 pub mod Running

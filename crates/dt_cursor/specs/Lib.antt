@@ -1,6 +1,7 @@
 pub mod Frames
 pub mod Kept
 pub mod Laws
+pub mod Onward
 pub mod Rounds
 pub mod Search
 pub mod Walk

@@ -1,9 +1,10 @@
 //! Any byte of a loop program, found by few reads: frames stand at the element that holds it.
 #![tactic(auto)]
 
+pub mod cursor;
 pub mod frames;
 pub mod laws;
-pub mod cursor;
+mod onward;
 mod spots;
 mod standing;
 mod step;
