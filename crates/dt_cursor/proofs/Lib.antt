@@ -1,3 +1,4 @@
+pub mod Climbing
 pub mod Elements
 pub mod Halfway
 pub mod IntoCopies

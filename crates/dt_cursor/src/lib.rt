@@ -1,7 +1,9 @@
 //! Any byte of a loop program, found by few reads: frames stand at the element that holds it.
 #![tactic(auto)]
 
+mod climb;
 pub mod cursor;
+mod find;
 pub mod frames;
 pub mod laws;
 mod onward;
