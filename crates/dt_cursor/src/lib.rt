@@ -3,7 +3,6 @@
 
 mod climb;
 pub mod cursor;
-mod find;
 pub mod frames;
 pub mod laws;
 mod onward;
