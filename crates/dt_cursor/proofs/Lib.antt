@@ -1,7 +1,9 @@
+pub mod ByLevels
 pub mod Climbing
 pub mod Elements
 pub mod Halfway
 pub mod IntoCopies
+pub mod IntoParts
 pub mod Narrowing
 pub mod NextRounds
 pub mod Options

@@ -5,7 +5,7 @@ ghost use Rattle.dt_kinds.specs.declared.kind.Rep.TheVariants.{Native};
 ghost use Rattle.dt_layout.specs.Body.{Body, size};
 ghost use Rattle.dt_map.specs.declared.entry.Entry as entry;
 
-use crate::find::descend;
+use crate::finding::descend;
 use crate::frames::Frames;
 use crate::onward::{Next, next_round};
 use dt_kinds::Rep;

@@ -58,6 +58,13 @@ impl Frames {
         self.levels.pop()
     }
 
+    /// Leaves all levels.
+    pub(crate) fn clear(&mut self)
+        ensures { self.new ≡ [] }
+    {
+        self.levels.clear();
+    }
+
     /// The innermost level.
     pub(crate) fn innermost(&self) -> Option<Frame>
         ensures { result ≡ slice_get self.now 0 }

@@ -3,12 +3,15 @@
 
 mod climb;
 pub mod cursor;
+mod finding;
 pub mod frames;
 pub mod laws;
 mod onward;
+mod parts;
 mod spots;
 mod standing;
 mod step;
 
+pub use finding::find;
 pub use frames::{Frame, Frames};
 pub use standing::here;
