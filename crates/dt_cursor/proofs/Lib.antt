@@ -11,3 +11,4 @@ pub mod Placed
 pub mod Reading
 pub mod Running
 pub mod SpotCopies
+pub mod Sums

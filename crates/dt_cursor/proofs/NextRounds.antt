@@ -263,7 +263,7 @@ product_none a b none =
     | inr h ↦ (let zero : a ≡ 0 = omega (arith, h) in let gone : 0 * b ≡ 0 = omega arith in ap (λ n. n * b) zero ∙ gone)
     ]
 
-seq_here : (at : ℕ) (body : Body) (number next : ℕ) → head_of at body ≡ variants.Seq number next → (parts : Parts) × (body ≡ seq parts)
+pub seq_here : (at : ℕ) (body : Body) (number next : ℕ) → head_of at body ≡ variants.Seq number next → (parts : Parts) × (body ≡ seq parts)
 seq_here at (one k) number next e = cc
 seq_here at (loop t b) number next e = cc
 seq_here at (each spots b) number next e = cc

@@ -1,19 +1,30 @@
-//! Cursors.
-ghost use Rattle.std.specs.Prelude.{◌≡◌};
+//! A cursor over the packed bytes of a program's elements.
+ghost use Rattle.std.specs.Prelude.{◌≡◌, ◌↔◌, ◌<◌, ◌≤◌, List, IsNone, IfNone, IfSome};
 ghost use Rattle.dt_cursor.specs.Kept.{ElementsOf, ElementsOf-prop};
+ghost use Rattle.dt_cursor.specs.Search.{IsFound};
+ghost use Rattle.dt_cursor.specs.Walk.{AreNext, IsNext, further};
+ghost use Rattle.dt_layout.specs.Program.{AreProgram, StandsFor};
+ghost use Rattle.dt_map.specs.declared.entry.Entry as entry;
+ghost use Rattle.dt_map.specs.Packed.{total};
+ghost use Rattle.dt_rows.specs.Rows.{bytes_in};
 
+use crate::finding::find;
 use crate::frames::Frames;
+use crate::passing::pass;
+use crate::totals::total_of;
 use dt_kinds::Rep;
-use dt_layout::Program;
+use dt_layout::{CountedCode, Program};
+use dt_rows::{Rows, Run};
 use std::marker::Model;
 use std::rc::Rc;
 
-/// A cursor.
+/// A walk through the packed bytes of the elements for which a program stands, in a representation, from any of them on. It takes no
+/// memory.
 #[derive(Drop)]
 pub struct Cursor {
     program: Rc<Program>,
     rep: Rep,
-    total: u64,
+    bytes: u64,
     position: u64,
     held: u8,
     frames: Frames,
@@ -21,21 +32,72 @@ pub struct Cursor {
 }
 
 impl Model for Cursor {
-    ghost use Rattle.std.specs.Prelude.{◌≡◌};
     ghost use Rattle.dt_cursor.specs.Walk.{Walk};
+    ghost use Rattle.dt_cursor.specs.Kept.{Stand};
 
     ghost Value = { Walk };
 
     ghost view = { λ c. record { elements = c.stands.0; rep = c.rep; position = c.position } };
 
-    ghost invariant = { λ c. c.position ≡ c.position };
+    ghost invariant = { λ c. Stand c.program.value c.stands.0 c.rep c.bytes c.position c.frames c.held };
+}
+
+/// Frames that stand at a packed byte, of whose element so many bytes lie before.
+fn stand(program: &Program, rep: Rep, byte: u64, frames: &mut Frames) -> u8
+    requires { (es : List entry.Entry) × StandsFor program.now es × (byte ≤ total rep es) }
+    ensures { (es : List entry.Entry) → StandsFor program.now es → IsFound program.now rep es byte frames.new result }
+{
+    let mut code = CountedCode::new(program);
+    find(&mut code, rep, byte, frames)
 }
 
 impl Cursor {
-    /// The position.
+    /// A cursor at the first packed byte.
+    pub fn new(program: Rc<Program>, rep: Rep) -> Cursor
+        ensures start { (es : List entry.Entry) → StandsFor program.value es → result ≡ record { elements = es; rep = rep; position = 0 } }
+        ensures lawful { AreProgram program.value }
+    {
+        let bytes = total_of(&program, rep);
+        let mut frames = Frames::new();
+        let held = stand(&program, rep, 0, &mut frames);
+        Cursor {
+            program,
+            rep,
+            bytes,
+            position: 0,
+            held,
+            frames,
+        }
+    }
+
+    /// How many packed bytes were passed.
     pub fn position(&self) -> u64
-        ensures { result ≡ self.now.position }
+        ensures value { result ≡ self.now.position }
+        ensures within { self.now.position ≤ total self.now.rep self.now.elements }
     {
         self.position
+    }
+
+    /// How many packed bytes there are.
+    pub fn total(&self) -> u64
+        ensures { result ≡ total self.now.rep self.now.elements }
+    {
+        self.bytes
+    }
+
+    /// The representation.
+    pub fn rep(&self) -> Rep
+        ensures { result ≡ self.now.rep }
+    {
+        self.rep
+    }
+
+    /// Goes to a packed byte, or to the end.
+    pub fn seek(&mut self, byte: u64)
+        requires { byte ≤ total self.old.rep self.old.elements }
+        ensures { self.new ≡ record { elements = self.old.elements; rep = self.old.rep; position = byte } }
+    {
+        self.held = stand(&self.program, self.rep, byte, &mut self.frames);
+        self.position = byte;
     }
 }

@@ -8,10 +8,14 @@ pub mod frames;
 pub mod laws;
 mod onward;
 mod parts;
+mod passing;
 mod spots;
 mod standing;
 mod step;
+mod totals;
 
+pub use cursor::Cursor;
+pub use dt_rows::{Rows, Run};
 pub use finding::find;
 pub use frames::{Frame, Frames};
 pub use standing::here;

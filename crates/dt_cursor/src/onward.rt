@@ -51,7 +51,7 @@ fn next_turn(turns: &Turns, inside: usize, frame: Frame) -> Option<Next>
 }
 
 /// The spot at a place.
-fn spot_of(program: &Program, place: usize) -> Spot
+pub(crate) fn spot_of(program: &Program, place: usize) -> Spot
     requires { (spot : spots.Spot) × (slice_get program.now place ≡ Some (instrs.Spot spot)) }
     ensures value { slice_get program.now place ≡ Some (instrs.Spot result) }
     ensures few { result.copies < 2 ^ 32 }
