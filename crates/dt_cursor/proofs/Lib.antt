@@ -4,6 +4,8 @@ pub mod Elements
 pub mod Halfway
 pub mod IntoCopies
 pub mod IntoParts
+pub mod Keeping
+pub mod Named
 pub mod Narrowing
 pub mod NextRounds
 pub mod Options

@@ -100,4 +100,55 @@ impl Cursor {
         self.held = stand(&self.program, self.rep, byte, &mut self.frames);
         self.position = byte;
     }
+
+    /// Names what comes next, of so many bytes and rows at most, and moves past it.
+    fn next(&mut self, most: u64, limit: u64) -> Option<Rows>
+        requires most { 0 < most }
+        requires limit { 0 < limit }
+        ensures end { IsNone result ↔ (self.old.position ≡ total self.old.rep self.old.elements) }
+        ensures stays { IfNone result (self.new ≡ self.old) }
+        ensures next { IfSome result (AreNext self.old) }
+        ensures most { IfSome result (λ r. bytes_in r ≤ most) }
+        ensures limit { IfSome result (λ r. r.rows ≤ limit) }
+        ensures passed { IfSome result (λ r. self.new ≡ further self.old (bytes_in r)) }
+    {
+        let Some(passed) = pass(
+            &self.program,
+            self.rep,
+            &mut self.frames,
+            self.held,
+            most,
+            limit,
+        ) else {
+            return None;
+        };
+        self.held = passed.held;
+        self.position += passed.rows.rows * passed.rows.run.bytes;
+        Some(passed.rows)
+    }
+
+    /// The rows that come next, of at most so many packed bytes, which it moves past; or `None` at the end.
+    pub fn next_rows(&mut self, most: usize) -> Option<Rows>
+        requires { 0 < most }
+        ensures end { IsNone result ↔ (self.old.position ≡ total self.old.rep self.old.elements) }
+        ensures stays { IfNone result (self.new ≡ self.old) }
+        ensures next { IfSome result (AreNext self.old) }
+        ensures most { IfSome result (λ r. bytes_in r ≤ most) }
+        ensures passed { IfSome result (λ r. self.new ≡ further self.old (bytes_in r)) }
+    {
+        self.next(most as u64, u64::MAX)
+    }
+
+    /// The run that comes next, of at most so many packed bytes, which it moves past; or `None` at the end.
+    pub fn next_run(&mut self, most: usize) -> Option<Run>
+        requires { 0 < most }
+        ensures end { IsNone result ↔ (self.old.position ≡ total self.old.rep self.old.elements) }
+        ensures stays { IfNone result (self.new ≡ self.old) }
+        ensures next { IfSome result (IsNext self.old) }
+        ensures most { IfSome result (λ run. run.bytes ≤ most) }
+        ensures passed { IfSome result (λ run. self.new ≡ further self.old run.bytes) }
+    {
+        let rows = self.next(most as u64, 1)?;
+        Some(rows.run)
+    }
 }
