@@ -6,3 +6,4 @@ pub mod InsideRows
 pub mod Joined
 pub mod Packing
 pub mod RowBytes
+pub mod Totals
