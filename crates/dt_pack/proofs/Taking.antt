@@ -1,7 +1,6 @@
 -- The packed bytes that come next of elements, by the rows that a walk names.
 use borrow.Rule.Slice.PartMut.{put_mid}
 use Rattle.std.proofs.Common.{◌≡◌, ℕ, ◌+◌, ◌-◌, ◌≤◌, ◌<◌, true, ℤ, List, ◌++◌, take, drop, length, sym, ap, ◌∙◌, arith, append_assoc, length-append, length-drop}
-use Rattle.std.specs.List.{list_all}
 use Rattle.std.proofs.lemmas.Bool.{and_parts}
 use Rattle.std.proofs.lemmas.Grind.{flat_map-append}
 use Rattle.std.proofs.lemmas.List.{take-append-le, drop-append-le, take_all, drop_at, drop-drop, length-take-le}

@@ -1,5 +1,5 @@
 -- Pack sessions: the packed bytes of an operation (MPI 4.1, section 5.2), taken in pieces.
-use Rattle.std.specs.Prelude.{◌≡◌, ℕ, ◌+◌, ◌-◌, ◌<◌, ◌≤◌, ℤ, pos, IsTrue, List, take, drop}
+use Rattle.std.specs.Prelude.{ℕ, ◌+◌, ◌-◌, ◌<◌, ◌≤◌, ℤ, pos, IsTrue, List, take, drop}
 use Rattle.dt_cursor.specs.Walk.{Walk}
 use Rattle.dt_kinds.specs.declared.kind.Rep.{Rep}
 use Rattle.dt_map.specs.declared.entry.Entry.{Entry}

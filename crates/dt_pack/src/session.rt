@@ -1,6 +1,7 @@
 //! Pack sessions.
-ghost use Rattle.std.specs.Prelude.{◌≡◌, ◌↔◌, ◌<◌, ◌≤◌, ◌-◌, ◌++◌, IsTrue, IsErrOf, IfOk, min, drop, length};
+ghost use Rattle.std.specs.Prelude.{◌≡◌, ◌↔◌, ◌<◌, ◌≤◌, ◌-◌, ◌++◌, IsTrue, IsErrOf, IfErr, IfOk, pos, min, drop, length};
 ghost use Rattle.dt_map.specs.Elements.{elements, are_inside};
+ghost use Rattle.dt_map.specs.Packed.{total};
 ghost use Rattle.dt_pack.specs.declared.fault.PackFault.TheVariants as PackFault;
 ghost use Rattle.dt_pack.specs.Session.{total_of, rest_of, next_bytes, at_byte, after, walk_of, opened, placed, IsTooLarge};
 ghost use Rattle.dt_type.specs.Datatype.{typemap_of};
@@ -37,6 +38,27 @@ impl Model for PackSession {
     ghost invariant = { λ s. IsLimited (record { rep = s.cursor.rep; elements = s.cursor.elements; origin = s.origin; buf_len = s.buf_len; position = s.cursor.position }) };
 }
 
+/// A cursor at the first packed byte of an operation, whose elements lie in a buffer and aren't too many.
+fn first_cursor(
+    alloc: Global,
+    ty: &Datatype,
+    count: u32,
+    rep: Rep,
+    origin: i64,
+    buf_len: usize,
+) -> Result<Cursor, PackFault>
+    requires small { buf_len ≤ 16777216 }
+    requires inside { IsTrue (are_inside buf_len (elements (typemap_of ty.now) count origin)) }
+    requires few { total rep (elements (typemap_of ty.now) count (pos 0)) ≤ 16777216 }
+    ensures value { IfOk result (λ c. c ≡ walk_of (opened (typemap_of ty.now) count rep origin buf_len)) }
+    ensures memory { IfErr result (λ fault. fault ≡ PackFault.NoMemory) }
+{
+    // the datatype's bounds are in range, and so are the places of its elements
+    let _bounds = ty.bounds();
+    let program = compile(alloc, ty, count)?;
+    Ok(Cursor::new(Rc::new(alloc, program)?, rep))
+}
+
 impl PackSession {
     /// Opens a session over so many copies of a datatype, the first of which begins at the origin in a buffer of `buf_len` bytes.
     /// `Outside` exactly where some byte of an element lies outside the buffer (MPI 4.1, section 5.1.11); then `TooLarge` exactly where
@@ -62,10 +84,8 @@ impl PackSession {
         if packed_size(ty, rep, count) > PACKED_MAX as u128 {
             return Err(PackFault::TooLarge);
         }
-        let program = compile(alloc, ty, count)?;
-        let cursor = Cursor::new(Rc::new(alloc, program)?, rep);
         Ok(PackSession {
-            cursor,
+            cursor: first_cursor(alloc, ty, count, rep, origin, buf_len)?,
             origin,
             buf_len,
         })
