@@ -1,0 +1,136 @@
+-- a table holds at a segment exactly where its value is not above the bound that is found from shorter segments
+use Rattle.std.proofs.Common.{◌≡◌, ◌⊎◌, inl, inr, ℕ, zero, suc, ◌+◌, ◌-◌, ◌*◌, ◌/◌, ◌≤◌, ◌<◌, min, ℤ, List, [], ◌∷◌, length, refl, sym, ap, ◌∙◌, subst, true, arith}
+use Rattle.std.specs.Prelude.{IsTrue}
+use Rattle.std.specs.List.{All, sum}
+use Rattle.std.proofs.lemmas.Bool.{cases_lt}
+use Rattle.std.proofs.lemmas.List.Elements.{All-cons, All-nil, All-head, All-tail}
+use Rattle.std.proofs.lemmas.List.Sums.{sum_by-cons}
+use Rattle.dt_map.specs.declared.entry.Entry.{Entry}
+use Rattle.dt_map.specs.Alike.{segment, are_alike, rise_by, are_stacked}
+use Rattle.dt_map.specs.Runs.{natural_extent}
+use Rattle.dt_map.proofs.Likeness.{both_true}
+use Rattle.dt_tree.specs.Weights.{Weights, AreLight}
+use Rattle.dt_normal.specs.Costs.{IsLeastOf}
+use Rattle.dt_normal.specs.Splits.{IsBlockLength, IsLowest, alone}
+use Rattle.dt_normal.specs.Table.{Table, IsSegment, least_run, cut_cost}
+use Rattle.dt_normal.proofs.Bounds.{least_run-le, least_run_is_least, one_block}
+use Rattle.dt_normal.proofs.Cells.{divided, is_block_length, how_many}
+use Rattle.dt_check.specs.declared.blocks.Split.TheVariants.{Alike, Even, Stacked}
+use Rattle.dt_check.specs.declared.level.Bound.{Bound}
+use Rattle.dt_check.specs.declared.sums.Sums.{Sums}
+use Rattle.dt_check.specs.Blocks.{IsSplit, split_cost}
+use Rattle.dt_check.specs.Failing.{HoldsAt}
+use Rattle.dt_check.specs.Levels.{AreKnown, IsBound, IsCutCost}
+use Rattle.dt_check.specs.Rows.{table_in}
+use Rattle.dt_check.specs.Sums.{IsFirst, two_parts}
+use Rattle.dt_check.proofs.Ones.{run_most, low_few, known_few}
+
+-- what is known where one segment is tested
+pub record IsAt (w : Weights) (m : List Entry) (low : Table) (start len parts : ℕ) (sums : Sums) (bound : Bound) : Type 0 where
+  pub light : AreLight w
+  pub few : length m ≤ 1024
+  pub some : 1 ≤ len
+  pub inside : start + len ≤ length m
+  pub known : AreKnown w m low (len - 1) sums
+  pub least : IsLowest (IsFirst (len - 1)) (two_parts sums.runs.items sums.cuts.items start len) 2050000000 parts
+  pub found : IsBound w m start len parts sums bound
+
+-- the least run is the segment's value, or that of a first block of two or more
+run_cases : (m : List Entry) (low : Table) (start len : ℕ) → 0 < len
+    → (least_run m low start len ≡ low start len) ⊎ ((block : ℕ) × IsBlockLength len block × IsTrue (are_stacked m start block (len / block)) × (least_run m low start len ≡ low start block))
+run_cases m low start len some =
+    let least = (least_run_is_least m low start len some).1 in
+    of least.0 least.1 least.2 least.3 least.4
+  where
+    of : (block count : ℕ) → count * block ≡ len → are_stacked m start block count ≡ true → least_run m low start len ≡ low start block
+        → (least_run m low start len ≡ low start len) ⊎ ((block : ℕ) × IsBlockLength len block × IsTrue (are_stacked m start block (len / block)) × (least_run m low start len ≡ low start block))
+    of block count whole stand is =
+        elim (cases_lt 1 count) [
+          | inl many ↦
+              let part = is_block_length len block count some whole many in
+              inr (block, part, subst (λ n. are_stacked m start block n ≡ true) (sym (how_many len block count (omega (arith, part.0)) whole)) stand, is)
+          | inr one ↦ inl (is ∙ ap (low start) (single count whole (omega (arith, one))))
+        ]
+      where
+        single : (n : ℕ) → n * block ≡ len → n ≤ 1 → block ≡ len
+        single zero e le = absurd (omega (arith, e, some))
+        single (suc zero) e le = omega (arith, e)
+        single (suc (suc n)) e le = absurd (omega arith)
+
+-- a node over one block, which is the segment itself
+over_one : (w : Weights) (m : List Entry) (low : Table) (start len : ℕ) → 1 ≤ len → HoldsAt w m low start len → low start len ≤ alone w + least_run m low start len
+over_one w m low start len some here =
+    let stand = both_true (are_alike m start len 1) (rise_by (natural_extent (segment m start len)) m start len 1) (one_block m start len) in
+    let one : 1 * len ≡ len = omega arith in
+    let cut = here.cuts (len ∷ []) (All-cons (λ n. 0 < n) len [] some (All-nil (λ n. 0 < n))) (sum_by-cons (λ (x : ℕ). x) len [] ∙ omega arith) in
+    omega (arith, cut, here.alike len 1 one stand.0, here.even len 1 (natural_extent (segment m start len)) one stand.0 stand.1)
+
+-- the cheapest parts, two or more of them
+parts_hold : (w : Weights) (m : List Entry) (low : Table) (start len parts : ℕ) (sums : Sums) (bound : Bound) → IsAt w m low start len parts sums bound → 2 ≤ len
+    → HoldsAt w m low start len → low start len ≤ w.group + w.part + parts
+parts_hold w m low start len parts sums bound at long here =
+    elim at.least.found [
+      | inl none ↦ omega (arith, none, at.few, at.inside, low_few w m low start len at.light (at.some, at.inside) here (λ l s k segment one. at.known.holds s k segment (omega arith)))
+      | inr first ↦
+          let k : ℕ = first.0 in
+          let rest = (at.known.cuts (start + first.0) (len - first.0) (omega (arith, first.1.1), omega (arith, at.inside, first.1.1)) (omega (arith, first.1.0))).0 in
+          let run = at.known.runs start first.0 (first.1.0, omega (arith, at.inside, first.1.1)) first.1.1 in
+          omega (
+            arith,
+            first.2,
+            run,
+            rest.3,
+            here.cuts (first.0 ∷ rest.0) (All-cons (λ n. 0 < n) first.0 rest.0 first.1.0 rest.1) (omega (arith, sum_by-cons (λ (x : ℕ). x) first.0 rest.0, rest.2, first.1.1)),
+          )
+    ]
+
+-- where a table holds, its value is within the bound
+pub holds_within : (w : Weights) (m : List Entry) (low : Table) (start len parts : ℕ) (sums : Sums) (bound : Bound) → IsAt w m low start len parts sums bound
+    → HoldsAt w m low start len → low start len ≤ bound.most
+holds_within w m low start len parts sums bound at here =
+    elim (cases_lt 1 len) [
+      | inl long ↦
+          let found = at.found.more long in
+          more long found.0 found.1 found.2 found.3 found.4 found.5
+      | inr one ↦
+          let single : len ≡ 1 = omega (arith, at.some) in
+          omega (arith, here.leaf single, (at.found.one single).0)
+    ]
+  where
+    more : 2 ≤ len → (index vector : ℕ) → IsLowest (IsSplit Alike m start len) (split_cost w Alike sums.runs.items start len) (w.group + w.part + parts) index
+        → IsLowest (IsSplit Even m start len) (split_cost w Even sums.runs.items start len) index vector
+        → IsLowest (IsSplit Stacked m start len) (split_cost w Stacked sums.lows.items start len) vector bound.stacked
+        → bound.most ≡ min vector (alone w + bound.stacked) → low start len ≤ bound.most
+    more long index vector alike even stacked is =
+        omega (arith, is, below_vector, below_stacked)
+      where
+        run_at : (n : ℕ) → IsBlockLength len n → table_in sums.runs.items start n ≡ least_run m low start n
+        run_at n part = at.known.runs start n (part.0, omega (arith, at.inside, part.1)) (omega (arith, part.1))
+
+        below_index : low start len ≤ index
+        below_index =
+            elim alike.found [
+              | inl same ↦ omega (arith, same, parts_hold w m low start len parts sums bound at long here)
+              | inr split ↦ omega (arith, split.2, run_at split.0 split.1.0, here.alike split.0 (len / split.0) (divided len split.0 split.1.0).whole split.1.1)
+            ]
+
+        below_vector : low start len ≤ vector
+        below_vector =
+            elim even.found [
+              | inl same ↦ omega (arith, same, below_index)
+              | inr split ↦ omega (arith, split.2, run_at split.0 split.1.0, here.even split.0 (len / split.0) split.1.1.1.0 (divided len split.0 split.1.0).whole split.1.1.0 split.1.1.1.1)
+            ]
+
+        below_stacked : low start len ≤ alone w + bound.stacked
+        below_stacked =
+            elim stacked.found [
+              | inl same ↦ omega (arith, same, below_vector)
+              | inr split ↦
+                  omega (
+                    arith,
+                    split.2,
+                    at.known.lows start split.0 (split.1.0.0, omega (arith, at.inside, split.1.0.1)) (omega (arith, split.1.0.1)),
+                    least_run-le m low start len split.0 (len / split.0) at.some (divided len split.0 split.1.0).whole split.1.1,
+                    over_one w m low start len at.some here,
+                  )
+            ]

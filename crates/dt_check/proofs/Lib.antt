@@ -1,0 +1,4 @@
+pub mod Bounding
+pub mod Lowering
+pub mod Ones
+pub mod Rowed

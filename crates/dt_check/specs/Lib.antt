@@ -1,0 +1,7 @@
+pub mod Blocks
+pub mod Failing
+pub mod Laws
+pub mod Levels
+pub mod Members
+pub mod Rows
+pub mod Sums
