@@ -1,4 +1,7 @@
 pub mod Bounding
+pub mod Everywhere
+pub mod Leveling
+pub mod Looking
 pub mod Lowering
 pub mod Ones
 pub mod Rowed

@@ -2,6 +2,7 @@
 ghost use Rattle.std.specs.Prelude.{◌-◌, IfOk, MatchOption};
 ghost use Rattle.std.specs.List.{All};
 ghost use Rattle.dt_normal.specs.Table.{IsValid};
+ghost use Rattle.dt_tree.specs.Weights.{AreLight};
 ghost use Rattle.dt_check.specs.Failing.{IsFirstFailing};
 ghost use Rattle.dt_check.specs.Members.{IsMember, table_of};
 
@@ -21,6 +22,18 @@ pub struct Segment {
     pub to: u32,
 }
 
+/// The weights are within their limits.
+fn are_light(w: &Weights)
+    ensures { AreLight w.now }
+{
+    let _leaf = w.leaf();
+    let _vector = w.vector();
+    let _index = w.index();
+    let _place = w.place();
+    let _group = w.group();
+    let _part = w.part();
+}
+
 /// The first segment, shorter ones first and then by start, at which the table of some members isn't valid: its value is above what one
 /// node could cost over the values of the segments below it. None exactly where the table is valid, so that no tree of any segment costs
 /// less than the table says. A segment that no member names has the value 0.
@@ -36,6 +49,7 @@ pub fn first_failing(
     requires members { All (IsMember classes.now) lows.now }
     ensures { IfOk result (λ found. MatchOption found (IsValid w.now classes.now (table_of lows.now)) (λ s. IsFirstFailing w.now classes.now (table_of lows.now) s.from (s.to - s.from))) }
 {
+    are_light(w);
     let values = values(alloc, classes, lows)?;
     let mut sums = Sums::new(alloc);
     'lengths: for k in 0..classes.len() {
