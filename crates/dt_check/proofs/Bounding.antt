@@ -194,7 +194,7 @@ cut_within w m low start len parts sums bound at within (k ∷ cut) positive who
           let h = bounded w m low start len parts sums bound at (omega (arith, some, less)) in
           let run = at.known.runs start k (some, omega (arith, at.inside, less)) (omega (arith, less)) in
           let rest = (at.known.cuts (start + k) (len - k) (omega (arith, less), omega (arith, at.inside, less)) (omega (arith, some))).1 (cut_cost w m low (start + k) cut)
-              (cut, All-tail (λ n. 0 < n) k cut positive, omega (arith, all), refl) in
+          (cut, All-tail (λ n. 0 < n) k cut positive, omega (arith, all), refl) in
           omega (arith, within, h.least, h.even.starts, h.alike.starts, at.least.each k (some, omega (arith, less)), run, rest)
       | inr from ↦
           let same : k ≡ len = omega (arith, all) in
@@ -305,7 +305,7 @@ cut_found w m low start len parts sums bound at here = (reached, λ cost cut. le
           | inl less ↦
               let run = at.known.runs start k (some, omega (arith, at.inside, less)) (omega (arith, less)) in
               let rest = (at.known.cuts (start + k) (len - k) (omega (arith, less), omega (arith, at.inside, less)) (omega (arith, some))).1 (cut_cost w m low (start + k) cut)
-                  (cut, All-tail (λ n. 0 < n) k cut positive, omega (arith, all), refl) in
+              (cut, All-tail (λ n. 0 < n) k cut positive, omega (arith, all), refl) in
               omega (arith, is, at.least.each k (some, omega (arith, less)), run, rest)
           | inr from ↦
               let same : k ≡ len = omega (arith, all) in

@@ -3,6 +3,7 @@
 
 mod blocks;
 pub mod failing;
+pub mod laws;
 mod level;
 mod sums;
 mod values;

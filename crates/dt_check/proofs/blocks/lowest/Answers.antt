@@ -24,7 +24,7 @@ node_cost-requires-clause-block c =
     let block = get_or c.args.lengths.now c.lengths.block-index 0 in
     let is = c.requires.lengths.sound c.lengths.block-index c.lengths-test.true in
     let read = table_read c.args.costs.now c.args.at.start block (length c.args.classes.now) c.index-cost.result.now c.index-costs-block.result c.requires.rows is.0 (omega (arith, is.1, c.requires.each))
-        (omega (arith, is.1, c.requires.inside)) c.index-costs-block.is c.index-cost.ensures in
+    (omega (arith, is.1, c.requires.inside)) c.index-costs-block.is c.index-cost.ensures in
     omega (arith, read, c.requires.low c.args.at.start block)
 
 pub lengths-preserved : goal.lengths-preserved
@@ -35,7 +35,7 @@ lengths-preserved c =
           let is = c.requires.lengths.sound c.lengths.block-index c.lengths-test.true in
           let read : table_in c.args.costs.now c.args.at.start block ≡ w.index-cost.result.now =
           table_read c.args.costs.now c.args.at.start block (length c.args.classes.now) w.index-cost.result.now w.index-costs-block.result c.requires.rows is.0 (omega (arith, is.1, c.requires.each))
-              (omega (arith, is.1, c.requires.inside)) w.index-costs-block.is w.index-cost.ensures in
+          (omega (arith, is.1, c.requires.inside)) w.index-costs-block.is w.index-cost.ensures in
           rw (w.least-is)
           (one_lowest (IsSplit c.args.split c.args.classes.now c.args.at.start c.args.at.len) (split_cost c.args.w.now c.args.split c.args.costs.now c.args.at.start c.args.at.len) c.args.most c.args.lengths.now c.lengths.block-index block w.node_cost.result c.lengths.least w.min-least.result c.lengths.invariant refl
           (is, c.stand.ensures.0 (search rules)) (w.node_cost.ensures ∙ ap (node_cost c.args.w.now c.args.split _) (sym read)) w.min-least.ensures)

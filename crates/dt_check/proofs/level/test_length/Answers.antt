@@ -39,9 +39,9 @@ returns-then-value-from c =
     let sums : AreLeastSums (length c.args.classes.now) c.args.len c.args.sums.now.runs.items c.args.sums.now.cuts.items (c.args.len - 1) c.in_ok-parts.parts.items =
     rw (c.len-entries.ensures.value, c.deref.ensures.value, c.deref-2.ensures.value) at c.in_ok-parts.ensures in
     let at = at_of c.args.w.now c.args.classes.now (table_in c.args.values.now) c.starts.start c.args.len c.index-part.result.now c.args.sums.now c.bound_of-bound.result c.in_ok-parts.parts.items c.requires.light
-        c.requires.few c.requires.some inside c.requires.known sums c.index-part.ensures c.bound_of-bound.ensures in
+    c.requires.few c.requires.some inside c.requires.known sums c.index-part.ensures c.bound_of-bound.ensures in
     let read = table_read c.args.values.now c.starts.start c.args.len (length c.args.classes.now) c.index-value.result.now c.index-values-len.result c.requires.rows c.requires.some (omega (arith, c.requires.inside, c.requires.each)) inside
-        c.index-values-len.is c.index-value.ensures in
+    c.index-values-len.is c.index-value.ensures in
     (inside, λ holds. omega (arith, read, holds_within c.args.w.now c.args.classes.now (table_in c.args.values.now) c.starts.start c.args.len c.index-part.result.now c.args.sums.now c.bound_of-bound.result at holds, c.if-value-from.true, c.from.ensures), c.starts.invariant.holds)
 
 pub starts-preserved : goal.starts-preserved
@@ -50,9 +50,9 @@ starts-preserved c =
     let sums : AreLeastSums (length c.args.classes.now) c.args.len c.args.sums.now.runs.items c.args.sums.now.cuts.items (c.args.len - 1) c.in_ok-parts.parts.items =
     rw (c.len-entries.ensures.value, c.deref.ensures.value, c.deref-2.ensures.value) at c.in_ok-parts.ensures in
     let at = at_of c.args.w.now c.args.classes.now (table_in c.args.values.now) c.starts.start c.args.len c.index-part.result.now c.args.sums.now c.bound_of-bound.result c.in_ok-parts.parts.items c.requires.light
-        c.requires.few c.requires.some inside c.requires.known sums c.index-part.ensures c.bound_of-bound.ensures in
+    c.requires.few c.requires.some inside c.requires.known sums c.index-part.ensures c.bound_of-bound.ensures in
     let read = table_read c.args.values.now c.starts.start c.args.len (length c.args.classes.now) c.index-value.result.now c.index-values-len.result c.requires.rows c.requires.some (omega (arith, c.requires.inside, c.requires.each)) inside
-        c.index-values-len.is c.index-value.ensures in
+    c.index-values-len.is c.index-value.ensures in
     one_known c.args.w.now c.args.classes.now (table_in c.args.values.now) c.args.len c.starts.start c.index-value.result.now c.index-part.result.now c.args.sums.now c.bound_of-bound.result c.starts.level c.push.new.self at
     (omega (arith, read, c.if-value-from.false, c.from.ensures)) (sym read) c.starts.invariant c.in_ok-push.ensures.lows c.in_ok-push.ensures.runs c.in_ok-push.ensures.cuts
 

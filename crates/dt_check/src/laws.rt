@@ -1,0 +1,17 @@
+//! Laws of the validity of tables, stated over their definitions. The functions do nothing.
+ghost use Rattle.dt_check.specs.Laws.{ValidEverywhere, ListedIsTable, OneFirstFailing};
+
+/// A table is valid exactly where it holds at each segment.
+pub fn valid_everywhere()
+    ensures { ValidEverywhere }
+{}
+
+/// The list of a table's values above 0 gives each segment the table's value.
+pub fn listed_is_table()
+    ensures { ListedIsTable }
+{}
+
+/// At most one segment is the first one at which a table fails.
+pub fn one_first_failing()
+    ensures { OneFirstFailing }
+{}
