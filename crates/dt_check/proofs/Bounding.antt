@@ -1,5 +1,5 @@
 -- a table holds at a segment exactly where its value is not above the bound that is found from shorter segments
-use Rattle.std.proofs.Common.{◌≡◌, ◌⊎◌, inl, inr, ℕ, zero, suc, ◌+◌, ◌-◌, ◌*◌, ◌/◌, ◌≤◌, ◌<◌, min, ℤ, List, [], ◌∷◌, length, refl, sym, ap, ◌∙◌, subst, true, arith}
+use Rattle.std.proofs.Common.{◌≡◌, ◌⊎◌, inl, inr, ℕ, zero, suc, ◌+◌, ◌-◌, ◌*◌, ◌/◌, ◌≤◌, ◌<◌, min, List, [], ◌∷◌, length, refl, sym, ap, ◌∙◌, subst, true, arith}
 use Rattle.std.specs.Prelude.{IsTrue}
 use Rattle.std.specs.List.{All, sum}
 use Rattle.std.proofs.lemmas.Bool.{cases_lt}
@@ -12,7 +12,7 @@ use Rattle.dt_map.proofs.Likeness.{both_true}
 use Rattle.dt_tree.specs.Weights.{Weights, AreLight}
 use Rattle.dt_normal.specs.Costs.{IsLeastOf}
 use Rattle.dt_normal.specs.Splits.{IsBlockLength, IsLowest, alone}
-use Rattle.dt_normal.specs.Table.{Table, IsSegment, least_run, cut_cost}
+use Rattle.dt_normal.specs.Table.{Table, least_run, cut_cost}
 use Rattle.dt_normal.proofs.Bounds.{least_run-le, least_run_is_least, one_block}
 use Rattle.dt_normal.proofs.Cells.{divided, is_block_length, how_many}
 use Rattle.dt_check.specs.declared.blocks.Split.TheVariants.{Alike, Even, Stacked}
@@ -23,7 +23,7 @@ use Rattle.dt_check.specs.Failing.{HoldsAt}
 use Rattle.dt_check.specs.Levels.{AreKnown, IsBound, IsCutCost}
 use Rattle.dt_check.specs.Rows.{table_in}
 use Rattle.dt_check.specs.Sums.{IsFirst, two_parts}
-use Rattle.dt_check.proofs.Ones.{run_most, low_few, known_few}
+use Rattle.dt_check.proofs.Ones.{run_most, low_few}
 
 -- what is known where one segment is tested
 pub record IsAt (w : Weights) (m : List Entry) (low : Table) (start len parts : ℕ) (sums : Sums) (bound : Bound) : Type 0 where

@@ -1,13 +1,11 @@
 -- validity segment by segment, and tables that are one table
-use Rattle.std.proofs.Common.{◌≡◌, ◌⊎◌, inl, inr, ℕ, zero, suc, ◌+◌, ◌-◌, ◌*◌, ◌≤◌, ◌<◌, Bool, true, false, cond, min, ℤ, List, [], ◌∷◌, length, refl, sym, ap, ◌∙◌, subst, arith}
-use Rattle.std.specs.List.{All, sum}
+use Rattle.std.proofs.Common.{◌≡◌, inl, inr, ℕ, zero, suc, ◌+◌, ◌≤◌, ◌<◌, Bool, true, false, cond, List, [], ◌∷◌, length, refl, sym, subst, arith}
 use Rattle.std.proofs.lemmas.Bool.{cases_lt}
 use Rattle.dt_map.specs.declared.entry.Entry.{Entry}
-use Rattle.dt_map.specs.Alike.{are_alike, rise_by}
 use Rattle.dt_tree.specs.Weights.{Weights}
 use Rattle.dt_normal.specs.Table.{Table, IsSegment, is_split, least_to, least_run, cut_cost, IsValid}
 use Rattle.dt_check.specs.declared.sums.Sums.{Sums}
-use Rattle.dt_check.specs.Failing.{HoldsAt, IsBefore, IsFirstFailing}
+use Rattle.dt_check.specs.Failing.{HoldsAt, IsFirstFailing}
 use Rattle.dt_check.specs.Laws.{ValidEverywhere, OneFirstFailing}
 use Rattle.dt_check.specs.Levels.{AreKnown}
 

@@ -1,12 +1,12 @@
 -- what is known of one length's segments, one by one, and of all lengths
-use Rattle.std.proofs.Common.{◌≡◌, ◌⊎◌, inl, inr, ℕ, zero, suc, ◌+◌, ◌-◌, ◌≤◌, ◌<◌, min, List, [], ◌∷◌, ◌++◌, length, get_or, refl, sym, ap, ◌∙◌, subst, arith, below_more, length-append}
+use Rattle.std.proofs.Common.{◌≡◌, inl, inr, ℕ, ◌+◌, ◌-◌, ◌≤◌, ◌<◌, min, List, [], ◌∷◌, ◌++◌, length, get_or, sym, ap, ◌∙◌, subst, arith, below_more, length-append}
 use Rattle.std.specs.Global.{Vec}
 use Rattle.std.proofs.lemmas.Bool.{cases_lt}
 use Rattle.std.proofs.lemmas.List.{get_or_append_left, get_or_push, get_or_default}
 use Rattle.dt_map.specs.declared.entry.Entry.{Entry}
 use Rattle.dt_tree.specs.Weights.{Weights, AreLight}
 use Rattle.dt_normal.specs.Costs.{IsLeastOf}
-use Rattle.dt_normal.specs.Table.{Table, IsSegment, least_run, IsValid}
+use Rattle.dt_normal.specs.Table.{Table, IsSegment, least_run}
 use Rattle.dt_check.specs.declared.level.Bound.{Bound}
 use Rattle.dt_check.specs.declared.sums.Level.{Level}
 use Rattle.dt_check.specs.declared.sums.Sums.{Sums}

@@ -1,16 +1,15 @@
 -- looked up in its list, a segment has the table's value
-use Rattle.std.proofs.Common.{◌≡◌, ◌⊎◌, inl, inr, ℕ, zero, suc, ◌+◌, ◌-◌, ◌≤◌, ◌<◌, Bool, true, false, cond, ◌==◌, ◌&&◌, nat_lt, List, [], ◌∷◌, ◌++◌, map, length, refl, sym, ap, ◌∙◌, subst, arith, eq-eqb, append-nil, ◌≢◌}
-use Rattle.std.specs.List.{All, filter, flat_map}
+use Rattle.std.proofs.Common.{◌≡◌, ◌⊎◌, inl, inr, ℕ, zero, suc, ◌+◌, ◌-◌, ◌≤◌, ◌<◌, Bool, true, false, cond, ◌==◌, ◌&&◌, List, [], ◌∷◌, ◌++◌, map, length, refl, sym, ap, ◌∙◌, subst, arith, eq-eqb, append-nil, ◌≢◌}
+use Rattle.std.specs.List.{filter}
 use Rattle.std.proofs.lemmas.Bool.{cases_lt, lt-ltb, le-ltb}
 use Rattle.std.proofs.lemmas.Bool.Decides.{eqb_tells}
 use Rattle.std.proofs.lemmas.List.{map_push}
 use Rattle.std.proofs.lemmas.List.Elements.{filter-append}
 use Rattle.std.proofs.lemmas.Grind.{flat_map-append}
 use Rattle.dt_offsets.specs.Offsets.{below}
-use Rattle.dt_map.specs.declared.entry.Entry.{Entry}
 use Rattle.dt_normal.specs.declared.low.Low.{Low}
-use Rattle.dt_normal.specs.Lows.{low_of, listed_at, listed}
-use Rattle.dt_normal.specs.Table.{Table, IsSegment}
+use Rattle.dt_normal.specs.Lows.{low_of, listed_at}
+use Rattle.dt_normal.specs.Table.{Table}
 use Rattle.dt_normal.proofs.Listing.{positive, front, lengths}
 use Rattle.dt_check.specs.Laws.{ListedIsTable}
 use Rattle.dt_check.specs.Members.{names, table_of}

@@ -1,12 +1,10 @@
 -- numbers brought down one after another, and the least sums over cuts into two parts
-use Rattle.std.proofs.Common.{◌≡◌, ◌⊎◌, inl, inr, ℕ, zero, suc, ◌+◌, ◌-◌, ◌≤◌, ◌<◌, min, List, [], ◌∷◌, length, get_or, set, drop, replicate, refl, sym, ap, ◌∙◌, subst, arith, below_more, length-set}
+use Rattle.std.proofs.Common.{◌≡◌, inl, inr, ℕ, suc, ◌+◌, ◌-◌, ◌≤◌, ◌<◌, min, List, length, get_or, set, replicate, refl, sym, ap, ◌∙◌, arith, below_more, length-set}
 use Rattle.std.specs.Global.{Vec}
 use Rattle.std.proofs.lemmas.Bool.{cases_lt}
 use Rattle.std.proofs.lemmas.List.{get_or-set_same, get_or-set_other, get_or-replicate, length-replicate}
-use Rattle.dt_normal.specs.Splits.{IsLowest}
 use Rattle.dt_check.specs.Rows.{row_at, table_in, AreFew}
-use Rattle.dt_check.specs.Sums.{AreLowered, AreLeastSums, IsFirst, two_parts}
-use Rattle.dt_check.proofs.Rowed.{row_read}
+use Rattle.dt_check.specs.Sums.{AreLowered, AreLeastSums, two_parts}
 
 pub record Lowered (firsts rests : List ℕ) (from k : ℕ) (before now : List ℕ) : Type 0 where
   pub each : length now ≡ length before

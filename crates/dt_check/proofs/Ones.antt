@@ -1,5 +1,5 @@
 -- the values of a table that holds are few, by the cut into single entries
-use Rattle.std.proofs.Common.{◌≡◌, ◌⊎◌, inl, inr, ℕ, zero, suc, ◌+◌, ◌-◌, ◌*◌, ◌≤◌, ◌<◌, Bool, min, cond, List, [], ◌∷◌, length, replicate, refl, sym, ap, ◌∙◌, subst, arith}
+use Rattle.std.proofs.Common.{◌≡◌, inl, inr, ℕ, zero, suc, ◌+◌, ◌*◌, ◌≤◌, ◌<◌, Bool, List, [], ◌∷◌, length, refl, subst, arith}
 use Rattle.std.specs.List.{All, sum}
 use Rattle.std.specs.Global.{Vec}
 use Rattle.std.proofs.lemmas.Bool.{cases_lt}
@@ -12,7 +12,7 @@ use Rattle.dt_normal.specs.Table.{Table, IsSegment, is_split, least_to, least_ru
 use Rattle.dt_check.specs.declared.sums.Sums.{Sums}
 use Rattle.dt_check.specs.Failing.{HoldsAt}
 use Rattle.dt_check.specs.Levels.{AreKnown, AreLengths, IsCutCost}
-use Rattle.dt_check.specs.Rows.{table_in, AreRows, AreFew}
+use Rattle.dt_check.specs.Rows.{table_in, AreFew}
 use Rattle.dt_check.proofs.Rowed.{table_outside, table_beyond}
 
 least_to-most : (test : ℕ → Bool) (value : ℕ → ℕ) (most n : ℕ) → least_to test value most n ≤ most

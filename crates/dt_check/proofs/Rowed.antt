@@ -1,11 +1,11 @@
 -- numbers in rows: read, set, and of one length more
-use Rattle.std.proofs.Common.{◌≡◌, ◌⊎◌, inl, inr, ℕ, zero, suc, ◌+◌, ◌-◌, ◌≤◌, ◌<◌, ◌==◌, ◌&&◌, Bool, true, false, cond, List, [], ◌∷◌, ◌++◌, length, get_or, set, replicate, refl, sym, ap, ◌∙◌, subst, arith, below_more, length-append, length-set, drop, drop-cons, eq-eqb}
+use Rattle.std.proofs.Common.{◌≡◌, inl, inr, ℕ, zero, suc, ◌+◌, ◌-◌, ◌≤◌, ◌<◌, ◌==◌, ◌&&◌, Bool, true, false, cond, List, [], ◌∷◌, ◌++◌, length, get_or, set, replicate, refl, sym, ap, ◌∙◌, subst, arith, below_more, length-append, length-set, drop, drop-cons, eq-eqb}
 use Rattle.std.specs.Global.{Vec}
 use Rattle.std.proofs.lemmas.Bool.{cases_lt, cases_eq, ne_eqb}
-use Rattle.std.proofs.lemmas.List.{get_or_append_left, get_or_push, get_or_default, get_or_past, get_or-replicate, length-replicate, get_or-set_same, get_or-set_other, drop_all}
+use Rattle.std.proofs.lemmas.List.{get_or_default, get_or_past, get_or-replicate, length-replicate, get_or-set_same, get_or-set_other, drop_all}
 use Rattle.dt_normal.specs.declared.low.Low.{Low}
 use Rattle.dt_check.specs.Members.{names, table_of}
-use Rattle.dt_check.specs.Rows.{row_at, table_in, AreRows, AreFew, with_value}
+use Rattle.dt_check.specs.Rows.{row_at, table_in, AreRows, with_value}
 
 pub row_read : (rows : List (Vec ℕ)) (k : ℕ) (other : Vec ℕ) → k < length rows → row_at rows k ≡ (get_or rows k other).items
 row_read [] k other lt = absurd (omega arith)

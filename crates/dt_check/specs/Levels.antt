@@ -1,4 +1,4 @@
-use Rattle.std.specs.Prelude.{◌≡◌, ℕ, suc, ◌+◌, ◌-◌, ◌≤◌, ◌<◌, min, List, length, slice_index}
+use Rattle.std.specs.Prelude.{◌≡◌, ℕ, ◌+◌, ◌-◌, ◌≤◌, ◌<◌, min, List, length, slice_index}
 use Rattle.std.specs.Global.{Vec}
 use Rattle.std.specs.List.{All, sum}
 use Rattle.dt_map.specs.declared.entry.Entry.{Entry}

@@ -1,4 +1,4 @@
-use Rattle.std.proofs.Common.{◌≡◌, ◌+◌, ◌-◌, arith, length, subst, sym}
+use Rattle.std.proofs.Common.{◌≡◌, ◌+◌, ◌-◌, arith, subst}
 use Rattle.dt_check.specs.Failing.{IsFirstFailing}
 use Rattle.dt_check.specs.Levels.{AreKnown, IsTested}
 use Rattle.dt_check.specs.Members.{table_of}

@@ -1,9 +1,9 @@
-use Rattle.std.proofs.Common.{◌≡◌, ℕ, ◌+◌, ◌-◌, ◌≤◌, ap, ◌∙◌, sym, arith, length, subst}
-use Rattle.dt_check.specs.Levels.{AreKnown, IsKnownLevel}
-use Rattle.dt_check.specs.Rows.{AreFew, table_in}
+use Rattle.std.proofs.Common.{◌≡◌, ◌+◌, ◌-◌, ◌≤◌, sym, arith, length, subst}
+use Rattle.dt_check.specs.Levels.{IsKnownLevel}
+use Rattle.dt_check.specs.Rows.{table_in}
 use Rattle.dt_check.specs.Sums.{AreLeastSums}
 use Rattle.dt_check.proofs.Bounding.{holds_within}
-use Rattle.dt_check.proofs.Leveling.{at_of, one_known, none_known}
+use Rattle.dt_check.proofs.Leveling.{at_of, one_known}
 use Rattle.dt_check.proofs.Ones.{lows_few, runs_few, cuts_few}
 use Rattle.dt_check.proofs.Rowed.{place_within, table_read}
 use Rattle.dt_check.proofs.level.test_length.Goals as goal

@@ -1,10 +1,10 @@
 use Rattle.std.proofs.Common.{◌≡◌, ap, ◌∙◌, sym, arith, length, subst, ◌+◌, ◌-◌, get_or, ℕ, ◌<◌, List}
 use Rattle.std.specs.Global.{Vec}
 use Rattle.std.proofs.lemmas.List.{with_items_is}
-use Rattle.dt_check.specs.Rows.{row_at, AreRows}
+use Rattle.dt_check.specs.Rows.{row_at}
 use Rattle.dt_check.specs.Sums.{AreLeastSums, AreLowered}
 use Rattle.dt_check.proofs.Rowed.{row_read}
-use Rattle.dt_check.proofs.Lowering.{none_summed, one_summed, sums_fit}
+use Rattle.dt_check.proofs.Lowering.{one_summed, sums_fit}
 use Rattle.dt_check.proofs.sums.least_sums.Goals as goal
 
 -- a row as it was read

@@ -1,6 +1,6 @@
 use Rattle.std.proofs.Common.{length, length-set, arith, refl, sym}
 use Rattle.std.specs.Vec.{with_item}
-use Rattle.dt_check.proofs.Rowed.{IsPlace, place_within, rows_set, table_set}
+use Rattle.dt_check.proofs.Rowed.{place_within, rows_set, table_set}
 use Rattle.dt_check.proofs.values.set_value.Goals as goal
 
 pub index_mut-requires : goal.index_mut-requires

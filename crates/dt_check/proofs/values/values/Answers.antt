@@ -2,7 +2,6 @@ use Rattle.std.proofs.Common.{◌≡◌, ℕ, ap, ◌∙◌, ◌-◌, ◌+◌, l
 use Rattle.std.proofs.lemmas.List.{with_items_is, get_or_default}
 use Rattle.std.proofs.lemmas.List.Elements.{All-get_or}
 use Rattle.dt_normal.specs.declared.low.Low.{Low}
-use Rattle.std.specs.List.{All}
 use Rattle.dt_check.specs.Members.{table_of, IsMember}
 use Rattle.dt_check.specs.Rows.{AreRows, table_in, with_value}
 use Rattle.dt_check.proofs.Rowed.{AreValues, no_values, more_values}

@@ -1,5 +1,5 @@
-use Rattle.std.proofs.Common.{◌∙◌, arith, rules}
-use Rattle.dt_check.proofs.Rowed.{AreZeros, no_zeros, more_zeros}
+use Rattle.std.proofs.Common.{arith, rules}
+use Rattle.dt_check.proofs.Rowed.{no_zeros, more_zeros}
 use Rattle.dt_check.proofs.values.zeros.Goals as goal
 
 pub lengths-init : goal.lengths-init
