@@ -1,5 +1,6 @@
 pub mod Blocks
 pub mod Failing
+pub mod Greatest
 pub mod Laws
 pub mod Levels
 pub mod Members
