@@ -1,5 +1,5 @@
 -- the greatest values among alike segments are valid
-use Rattle.std.proofs.Common.{◌≡◌, ◌⊎◌, inl, inr, ℕ, zero, suc, ◌+◌, ◌-◌, ◌*◌, ◌≤◌, ◌<◌, max, Bool, true, false, ◌&&◌, cond, ℤ, pos, ◌+ℤ◌, ◌*ℤ◌, List, [], ◌∷◌, take, drop, length, refl, sym, ap, ◌∙◌, subst, arith}
+use Rattle.std.proofs.Common.{◌≡◌, ◌⊎◌, inl, inr, ℕ, zero, suc, ◌+◌, ◌-◌, ◌*◌, ◌≤◌, ◌<◌, Bool, true, false, ◌&&◌, cond, ℤ, pos, ◌+ℤ◌, ◌*ℤ◌, List, [], ◌∷◌, take, drop, length, refl, sym, ap, ◌∙◌, subst, arith}
 use Rattle.std.specs.List.{All, sum, list_all}
 use Rattle.std.specs.Ordering.{int_eq}
 use Rattle.std.proofs.lemmas.Bool.{cases_lt}
@@ -18,8 +18,7 @@ use Rattle.dt_map.specs.Typemap.{shift}
 use Rattle.dt_map.proofs.Likeness.{both_true, alike_is_shifted, alike_is_equivalence, segments_of_alike, segment-shift, extent_of_alike}
 use Rattle.dt_map.proofs.Seats.{list_all-below}
 use Rattle.dt_tree.specs.Weights.{Weights}
-use Rattle.dt_normal.specs.Lows.{IsGreatest}
-use Rattle.dt_normal.specs.Table.{Table, IsSegment, least_run, cut_cost, IsValid}
+use Rattle.dt_normal.specs.Table.{Table, least_run, cut_cost}
 use Rattle.dt_normal.proofs.Bounds.{least_run-le, least_run_is_least}
 use Rattle.dt_check.specs.Failing.{HoldsAt}
 use Rattle.dt_check.specs.Greatest.{greatest_below, greatest_alike, GreatestAlikeIsValid, GreatestIsOfClasses}
