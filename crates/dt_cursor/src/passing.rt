@@ -37,9 +37,9 @@ fn kind_at(program: &Program, frame: Frame) -> Kind
 /// Bytes of one element.
 fn part_of(kind: Kind, disp: i64, skip: u8, bytes: u64) -> Rows
     ensures { result ≡ record {
-        run = record { kind = kind; disp = disp; elements = 1; skip = skip; bytes = bytes };
-        rows = 1;
-        step = pos 0;
+      run = record { kind = kind; disp = disp; elements = 1; skip = skip; bytes = bytes };
+      rows = 1;
+      step = pos 0;
     } }
 {
     Rows {
@@ -56,7 +56,14 @@ fn part_of(kind: Kind, disp: i64, skip: u8, bytes: u64) -> Rows
 }
 
 /// Takes the element at which frames stand, or what is left of it.
-fn take(program: &Program, rep: Rep, frames: &mut Frames, frame: Frame, kind: Kind, held: u8) -> Rows
+fn take(
+    program: &Program,
+    rep: Rep,
+    frames: &mut Frames,
+    frame: Frame,
+    kind: Kind,
+    held: u8,
+) -> Rows
     requires run { (es : List entry.Entry) × StandAt program.now frames.old es × AreHeld rep held es }
     requires top { slice_get frames.old 0 ≡ Some frame }
     requires kind { slice_get program.now frame.instr ≡ Some (One kind) }
@@ -66,7 +73,12 @@ fn take(program: &Program, rep: Rep, frames: &mut Frames, frame: Frame, kind: Ki
     ensures rows { result.rows ≡ 1 }
 {
     frames.pop();
-    part_of(kind, frame.base, held, bytes_of(kind, rep) - u64::from(held))
+    part_of(
+        kind,
+        frame.base,
+        held,
+        bytes_of(kind, rep) - u64::from(held),
+    )
 }
 
 /// Names what comes next, of so many bytes and rows at most, and passes it.

@@ -1,4 +1,4 @@
-use Rattle.std.proofs.Common.{◌≡◌, ◌+◌, ◌-◌, arith, ap, subst, ◌∙◌, sym}
+use Rattle.std.proofs.Common.{◌-◌, arith, ap, subst, ◌∙◌, sym}
 use Rattle.dt_cursor.specs.Ahead.{AreTaken}
 use Rattle.dt_cursor.specs.Frames.{ToCome}
 use Rattle.dt_cursor.proofs.Named.{back_here, elements_here, is_here, part_rows, part_taken, popped}
