@@ -50,6 +50,7 @@ append_split (x ∷ xs) ys (g ∷ gone) later r e =
 pub record IsTurn (frame : Frame) (t : Turns) (b : Body) (later : List Round) : Type 0 where
   pub within : frame.turn < t.count
   pub to_come : later ≡ map (turn_round frame.instr t b frame.base) (drop (suc frame.turn) (below t.count))
+  pub copy : frame.copy ≡ 0
   pub some : 0 < size Native b
 
 pub half_turn : (code : List Instr) (levels : ℕ) (frame : Frame) (t : Turns) (b : Body) (later : List Round) → IsHalfRun code levels frame (loop t b) later → IsTurn frame t b later
@@ -59,6 +60,7 @@ half_turn code levels frame t b later half =
     record {
       within = subst (λ k. k < t.count) turn s.0;
       to_come = subst (λ k. later ≡ map (turn_round frame.instr t b frame.base) (drop (suc k) (below t.count))) turn s.2;
+      copy = ap (λ (f : Frame). f.copy) (sym half.here) ∙ ap (λ (r : Round). r.frame.copy) s.1;
       some = subst (λ (r : Round). 0 < size Native r.body) s.1 half.some;
     }
 

@@ -1,6 +1,7 @@
 pub mod ByLevels
 pub mod Climbing
 pub mod Elements
+pub mod Evenly
 pub mod Halfway
 pub mod IntoCopies
 pub mod IntoParts
@@ -14,3 +15,4 @@ pub mod Reading
 pub mod Running
 pub mod SpotCopies
 pub mod Sums
+pub mod WithinLevel

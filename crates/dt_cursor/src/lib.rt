@@ -6,6 +6,7 @@ pub mod cursor;
 mod finding;
 pub mod frames;
 pub mod laws;
+mod level;
 mod onward;
 mod parts;
 mod passing;
