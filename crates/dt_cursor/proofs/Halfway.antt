@@ -64,6 +64,14 @@ half_turn code levels frame t b later half =
       some = subst (λ (r : Round). 0 < size Native r.body) s.1 half.some;
     }
 
+-- the round that a loop is in
+pub turn_here : (code : List Instr) (levels : ℕ) (frame : Frame) (t : Turns) (b : Body) (later : List Round) → (half : IsHalfRun code levels frame (loop t b) later)
+    → half.round ≡ turn_round frame.instr t b frame.base frame.turn
+turn_here code levels frame t b later half =
+    let s = below_split (turn_round frame.instr t b frame.base) t.count half.gone later half.round half.split in
+    let turn : length half.gone ≡ frame.turn = ap (λ (r : Round). r.frame.turn) (sym s.1) ∙ ap (λ (f : Frame). f.turn) half.here in
+    s.1 ∙ ap (turn_round frame.instr t b frame.base) turn
+
 -- the copy that a row of spots is in, and those to come
 record IsCopySplit (at inside : ℕ) (b : Body) (x : ℤ) (n : ℕ) (spots : List Spot) (r : Round) (later : List Round) : Type 0 where
   i : ℕ
@@ -140,6 +148,20 @@ half_copy code levels frame spots b later half =
           ∙ ap (λ k. map (copy_round frame.instr (inside_of frame spots) b frame.base frame.turn s.spot) (drop (suc frame.copy) (below s.spot.copies)) ++ copy_rounds frame.instr (inside_of frame spots) b frame.base (frame.turn + 1) (drop k spots)) (next ∙ ap (λ k. k + 1) turn);
       some = subst (λ (r : Round). 0 < size Native r.body) s.round half.some;
     }
+
+-- the round that a row of spots is in
+pub copy_here : (code : List Instr) (levels : ℕ) (frame : Frame) (spots : List Spot) (b : Body) (later : List Round) → (half : IsHalfRun code levels frame (each spots b) later)
+    → (s : Spot) → slice_get spots frame.turn ≡ Some s → half.round ≡ copy_round frame.instr (inside_of frame spots) b frame.base frame.turn s frame.copy
+copy_here code levels frame spots b later half spot got =
+    let s = copy_split frame.instr (inside_of frame spots) b frame.base 0 spots half.gone later half.round half.split in
+    let turn : s.i ≡ frame.turn = omega (arith, ap (λ (r : Round). r.frame.turn) s.round, ap (λ (f : Frame). f.turn) half.here) in
+    let copy : s.copy ≡ frame.copy = ap (λ (r : Round). r.frame.copy) (sym s.round) ∙ ap (λ (f : Frame). f.copy) half.here in
+    let zero_more : 0 + s.i ≡ s.i = omega arith in
+    let read : slice_get spots frame.turn ≡ Some s.spot = subst (λ k. slice_get spots k ≡ Some s.spot) turn s.got in
+    let same : s.spot ≡ spot = (let both = sym read ∙ got in cc) in
+    s.round ∙ ap (λ k. copy_round frame.instr (inside_of frame spots) b frame.base k s.spot s.copy) (zero_more ∙ turn)
+    ∙ ap (λ k. copy_round frame.instr (inside_of frame spots) b frame.base frame.turn s.spot k) copy
+    ∙ ap (λ z. copy_round frame.instr (inside_of frame spots) b frame.base frame.turn z frame.copy) same
 
 -- parts at places
 module _ (code : List Instr) (place : ℕ) where

@@ -1,5 +1,6 @@
 pub mod ByLevels
 pub mod Climbing
+pub mod Cuts
 pub mod Elements
 pub mod Evenly
 pub mod Halfway

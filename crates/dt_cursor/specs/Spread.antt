@@ -1,5 +1,5 @@
 -- What is left of the level at which a run stands.
-use Rattle.std.specs.Prelude.{◌≡◌, ℕ, suc, ◌+◌, ◌*◌, ◌<◌, ◌≤◌, ◌+ℤ◌, ◌*ℤ◌, ℤ, pos, Bool, true, false, List, ◌∷◌, ◌++◌, map}
+use Rattle.std.specs.Prelude.{◌≡◌, ℕ, suc, ◌+◌, ◌*◌, ◌^◌, ◌<◌, ◌≤◌, ◌+ℤ◌, ◌*ℤ◌, ℤ, pos, Bool, true, false, List, ◌∷◌, ◌++◌, map}
 use Rattle.std.specs.List.{flat_map}
 use Rattle.dt_cursor.specs.declared.frames.Frame.{Frame}
 use Rattle.dt_cursor.specs.declared.level.Cut.{Cut}
@@ -41,10 +41,16 @@ abbrev pub further_on : Bool → Frame → ℕ → Frame
 further_on false f by = record f { turn = f.turn + by }
 further_on true f by = record f { copy = f.copy + by }
 
+-- the frame has room to go on so far
+abbrev pub HasRoom : Bool → Frame → ℕ → Type 0
+HasRoom false f by = f.turn + by < 2 ^ 64
+HasRoom true f by = f.copy + by < 2 ^ 32
+
 -- what is left from the element at a frame on, which is run in another frame's round
 pub record IsRest (code : List Instr) (kind : Kind) (x : ℤ) (outer : Frame) (frames : List Frame) (es : List Entry) (r : Rest) : Type 0 where
   pub some_rows : 0 < r.rows
   pub some : 0 < r.row
+  pub room : (rows elements more : ℕ) → AreLeft r rows elements → suc more ≡ rows * elements → HasRoom r.of_spot outer more
   pub ahead : (rows elements more : ℕ) → AreLeft r rows elements → suc more ≡ rows * elements
       → (after : List Entry) × (es ≡ spread kind x rows r.jump elements r.step ++ after) × ToCome code (further_on r.of_spot outer more ∷ frames) after
 
