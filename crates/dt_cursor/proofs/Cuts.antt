@@ -1,15 +1,13 @@
 -- Rows of what is left.
-use Rattle.std.specs.Prelude.{◌≡◌, ℕ, ◌+◌, ◌*◌, ◌/◌, ◌<◌, ◌≤◌, ◌⊎◌, ℤ, ◌+ℤ◌, ◌*ℤ◌, pos, List, [], ◌∷◌, ◌++◌, map}
+use Rattle.std.specs.Prelude.{◌≡◌, ℕ, ◌<◌, ◌≤◌, ◌⊎◌, ℤ, ◌+ℤ◌, ◌*ℤ◌, pos, List, [], ◌∷◌, map}
 use Rattle.std.specs.List.{flat_map}
 use Rattle.std.proofs.Common.{refl, sym, ap, subst, ◌∙◌, arith, inl, inr, append-nil}
 use Rattle.std.proofs.Math.IntN.{zero-*ℤ}
 use Rattle.std.proofs.lemmas.Int.{ints}
-use Rattle.dt_cursor.specs.declared.level.Cut.{Cut}
 use Rattle.dt_cursor.specs.declared.level.Rest.{Rest}
-use Rattle.dt_cursor.specs.Spread.{AreLeft, IsCut, spread}
+use Rattle.dt_cursor.specs.Spread.{IsCut, spread}
 use Rattle.dt_kinds.specs.declared.kind.Kind.{Kind}
 use Rattle.dt_kinds.specs.Kind.{native_size}
-use Rattle.dt_map.specs.declared.entry.Entry.{Entry}
 use Rattle.dt_offsets.specs.Offsets.{row_offsets}
 use Rattle.dt_rows.specs.Rows.{element_at}
 
@@ -42,10 +40,10 @@ module _ (kind : Kind) (r : Rest) where
     same = λ x.
         one_row_is kind x (pos 0) n (pos (native_size kind))
         ∙ elim adjacent [
-        inl single ↦
-            subst (λ k. map (element_at kind) (row_offsets x k (pos (native_size kind))) ≡ map (element_at kind) (row_offsets x k r.step)) (sym single)
-            (sym (one_row_is kind x (pos 0) 1 (pos (native_size kind))) ∙ singles_are kind x 1 (pos 0) (pos (native_size kind)) ∙ sym (singles_are kind x 1 (pos 0) r.step) ∙ one_row_is kind x (pos 0) 1 r.step)
-        | inr step ↦ ap (λ y. map (element_at kind) (row_offsets x n y)) (sym step)
+          | inl single ↦
+              subst (λ k. map (element_at kind) (row_offsets x k (pos (native_size kind))) ≡ map (element_at kind) (row_offsets x k r.step)) (sym single)
+              (sym (one_row_is kind x (pos 0) 1 (pos (native_size kind))) ∙ singles_are kind x 1 (pos 0) (pos (native_size kind)) ∙ sym (singles_are kind x 1 (pos 0) r.step) ∙ one_row_is kind x (pos 0) 1 r.step)
+          | inr step ↦ ap (λ y. map (element_at kind) (row_offsets x n y)) (sym step)
         ]
         ∙ sym (one_row_is kind x r.jump n r.step);
   }
@@ -60,10 +58,10 @@ module _ (kind : Kind) (r : Rest) where
     same = λ x.
         ap (λ y. spread kind x m y r.row (pos (native_size kind))) jump
         ∙ elim adjacent [
-        inl single ↦
-            subst (λ k. spread kind x m r.jump k (pos (native_size kind)) ≡ spread kind x m r.jump k r.step) (sym single)
-            (singles_are kind x m r.jump (pos (native_size kind)) ∙ sym (singles_are kind x m r.jump r.step))
-        | inr size ↦ ap (λ y. spread kind x m r.jump r.row y) (sym size)
+          | inl single ↦
+              subst (λ k. spread kind x m r.jump k (pos (native_size kind)) ≡ spread kind x m r.jump k r.step) (sym single)
+              (singles_are kind x m r.jump (pos (native_size kind)) ∙ sym (singles_are kind x m r.jump r.step))
+          | inr size ↦ ap (λ y. spread kind x m r.jump r.row y) (sym size)
         ];
   }
 
@@ -77,10 +75,10 @@ module _ (kind : Kind) (r : Rest) where
     same = λ x.
         singles_are kind x n step (pos (native_size kind))
         ∙ elim same_step [
-        inl single ↦
-            subst (λ k. map (element_at kind) (row_offsets x k step) ≡ map (element_at kind) (row_offsets x k r.step)) (sym single)
-            (sym (one_row_is kind x (pos 0) 1 step) ∙ singles_are kind x 1 (pos 0) step ∙ sym (singles_are kind x 1 (pos 0) r.step) ∙ one_row_is kind x (pos 0) 1 r.step)
-        | inr is ↦ ap (λ y. map (element_at kind) (row_offsets x n y)) is
+          | inl single ↦
+              subst (λ k. map (element_at kind) (row_offsets x k step) ≡ map (element_at kind) (row_offsets x k r.step)) (sym single)
+              (sym (one_row_is kind x (pos 0) 1 step) ∙ singles_are kind x 1 (pos 0) step ∙ sym (singles_are kind x 1 (pos 0) r.step) ∙ one_row_is kind x (pos 0) 1 r.step)
+          | inr is ↦ ap (λ y. map (element_at kind) (row_offsets x n y)) is
         ]
         ∙ sym (one_row_is kind x r.jump n r.step);
   }

@@ -1,12 +1,12 @@
 -- Offsets that lie evenly.
-use Rattle.std.specs.Prelude.{◌≡◌, ℕ, zero, suc, ◌+◌, ◌-◌, ◌*◌, ◌/◌, ◌%◌, ◌<◌, ◌≤◌, min, ◌⊎◌, ℤ, ◌+ℤ◌, ◌*ℤ◌, pos, Bool, true, false, List, [], ◌∷◌, ◌++◌, map, length, drop}
+use Rattle.std.specs.Prelude.{◌≡◌, ℕ, zero, suc, ◌+◌, ◌-◌, ◌*◌, ◌/◌, ◌%◌, ◌<◌, ◌≤◌, min, ℤ, ◌+ℤ◌, ◌*ℤ◌, pos, List, [], ◌∷◌, ◌++◌, map}
 use Rattle.std.specs.List.{flat_map}
-use Rattle.std.proofs.Common.{refl, sym, ap, subst, ◌∙◌, arith, inl, inr, append-nil, append_assoc}
+use Rattle.std.proofs.Common.{refl, sym, ap, subst, ◌∙◌, arith, inl, inr, append-nil}
 use Rattle.std.proofs.Math.IntN.{suc_ℤ-*ℤ, zero-*ℤ}
 use Rattle.std.proofs.Math.Nat.{div-lt_iff_lt-mul, eq-or-lt_of_le, le-div_iff_mul-le, mod-lt, mul-le-mul_left, mul-le-mul_right}
 use Rattle.std.proofs.lemmas.Int.{ints}
 use Rattle.std.proofs.lemmas.List.{map-append}
-use Rattle.std.proofs.lemmas.Nat.{div-add-mod', div-mul-add, mod-mul-add}
+use Rattle.std.proofs.lemmas.Nat.{div-add-mod'}
 use Rattle.dt_cursor.specs.declared.level.Rest.{Rest}
 use Rattle.dt_cursor.specs.Spread.{AreLeft, IsRestOf, LieEvenly, spread}
 use Rattle.dt_kinds.specs.declared.kind.Kind.{Kind}
@@ -152,10 +152,10 @@ rest_of_blocks t q some begins whole r row blocks jump step =
     even_blocks rows elements left =
         let some_rows = left.some_rows in
         elim (eq-or-lt_of_le some_rows) [
-        inl single ↦
-            let most = left.most in
-            subst (λ k. LieEvenly (turn_offset t) q k t.jump elements t.step) single (in_block t q some elements (omega (arith, most, row, begins)))
-        | inr more ↦ subst (λ n. LieEvenly (turn_offset t) q rows t.jump n t.step) (sym (left.whole more ∙ row)) (whole_blocks t q some rows begins)
+          | inl single ↦
+              let most = left.most in
+              subst (λ k. LieEvenly (turn_offset t) q k t.jump elements t.step) single (in_block t q some elements (omega (arith, most, row, begins)))
+          | inr more ↦ subst (λ n. LieEvenly (turn_offset t) q rows t.jump n t.step) (sym (left.whole more ∙ row)) (whole_blocks t q some rows begins)
         ]
 
 -- the copies of a spot that are left

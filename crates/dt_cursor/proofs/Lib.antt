@@ -16,4 +16,5 @@ pub mod Reading
 pub mod Running
 pub mod SpotCopies
 pub mod Sums
+pub mod Takings
 pub mod WithinLevel

@@ -122,3 +122,14 @@ taken_passed code rep es held old new r taken climbed = record {
     not_begun : (fs : List Entry) → AreHeld rep 0 fs
     not_begun [] = refl
     not_begun (e ∷ fs) = packed_size-pos rep e.kind
+
+-- the same taking, of what is the same
+pub taken_at : (code : List Instr) (rep : Rep) (es : List Entry) (held : ℕ) (old new : List Frame) (r s : Rows) → old ≡ new → r ≡ s → AreTaken code rep es held old r → AreTaken code rep es held new s
+taken_at code rep es held old new r s frames rows taken = subst (λ fs. AreTaken code rep es held fs s) frames (subst (AreTaken code rep es held old) rows taken)
+
+-- frames of which the innermost was taken away
+pub stood : (code : List Instr) (frame : Frame) (old new : List Frame) (es : List Entry) → slice_get old 0 ≡ Some frame → drop 1 old ≡ new → StandAt code old es → StandAt code (frame ∷ new) es
+stood code frame [] new es top rest stand = cc
+stood code frame (f ∷ fs) new es top rest stand =
+    let same : f ≡ frame = cc in
+    subst (λ g. StandAt code (g ∷ new) es) same (subst (λ gs. StandAt code (f ∷ gs) es) rest stand)

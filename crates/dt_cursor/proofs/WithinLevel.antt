@@ -1,13 +1,13 @@
 -- A frame that goes on within its level.
-use Rattle.std.specs.Prelude.{◌≡◌, Some, ℕ, zero, suc, ◌+◌, ◌*◌, ◌^◌, ◌<◌, ◌≤◌, ℤ, ◌+ℤ◌, ◌*ℤ◌, pos, nat_abs, Bool, true, false, List, [], ◌∷◌, ◌++◌, map, length, drop, slice_get}
+use Rattle.std.specs.Prelude.{◌≡◌, Some, ℕ, zero, suc, ◌+◌, ◌^◌, ◌<◌, ◌≤◌, ℤ, ◌+ℤ◌, ◌*ℤ◌, pos, nat_abs, true, false, List, [], ◌∷◌, ◌++◌, map, length, drop, slice_get}
 use Rattle.std.proofs.Common.{refl, sym, ap, subst, ◌∙◌, arith, append_assoc, append-nil}
 use Rattle.std.proofs.lemmas.Grind.{flat_map-append}
 use Rattle.std.proofs.lemmas.List.{map-append}
 use Rattle.dt_cursor.specs.declared.frames.Frame.{Frame}
 use Rattle.dt_cursor.specs.declared.level.Rest.{Rest}
-use Rattle.dt_cursor.specs.Frames.{IsHalfRun, IsPlaced, StandAt, ToCome}
+use Rattle.dt_cursor.specs.Frames.{IsHalfRun, StandAt, ToCome}
 use Rattle.dt_cursor.specs.Rounds.{Round, copy_round, copy_rounds, elements_of}
-use Rattle.dt_cursor.specs.Spread.{AreLeft, HasRoom, IsRest, IsRestOf, further_on, spread}
+use Rattle.dt_cursor.specs.Spread.{HasRoom, IsRest, IsRestOf, further_on, spread}
 use Rattle.dt_cursor.proofs.Evenly.{here, spread_is}
 use Rattle.dt_cursor.proofs.Halfway.{copy_here, half_copy, half_turn, inside_of, turn_here}
 use Rattle.dt_cursor.proofs.NextRounds.{drop_below, half_each, half_loop}
@@ -84,10 +84,14 @@ module _ (code : List Instr) (kind : Kind) (place : ℕ) (x : ℤ) (frame_of : �
           → ToCome code (frame_of (q + d) ∷ frames) (elements_of (map round_at (drop (q + suc d) (below count)) ++ more) ++ rest)
       come zero within parts =
           let none : q ≡ q + zero = omega arith in
-          let after = map round_at (drop (q + suc zero) (below count)) ++ more in
-          (body, after, rest,
-          subst (λ k. IsHalfRun code (length frames) (frame_of k) body after) none (subst (λ f. IsHalfRun code (length frames) f body after) (sym first) (subst (IsHalfRun code (length frames) outer body) parts half)),
-          outside, refl)
+          let after = map round_at (drop (q + suc zero) (below count)) ++ more in (
+            body,
+            after,
+            rest,
+            subst (λ k. IsHalfRun code (length frames) (frame_of k) body after) none (subst (λ f. IsHalfRun code (length frames) f body after) (sym first) (subst (IsHalfRun code (length frames) outer body) parts half)),
+            outside,
+            refl,
+          )
       come (suc d) within parts =
           let next : q + suc d ≡ q + suc d = refl in
           let skipped = map round_at (map (λ i. q + suc i) (below d)) in
@@ -95,10 +99,14 @@ module _ (code : List Instr) (kind : Kind) (place : ℕ) (x : ℤ) (frame_of : �
           let last : map round_at (map (λ i. q + suc i) (below (suc d))) ≡ skipped ++ round_at (q + suc d) ∷ [] =
           ap (map round_at) (map-append (λ i. q + suc i) (below d) (d ∷ [])) ∙ map-append round_at (map (λ i. q + suc i) (below d)) ((q + suc d) ∷ []) in
           let whole = half.split ∙ ap (λ rs. half.gone ++ half.round ∷ rs) (parts ∙ ap (λ s. s ++ after) last ∙ append_assoc skipped (round_at (q + suc d) ∷ []) after)
-          ∙ sym (append_assoc half.gone (half.round ∷ skipped) (round_at (q + suc d) ∷ after)) in
-          (body, after, rest,
-          half_run code outer.instr body outer.base half.placed (half.gone ++ half.round ∷ skipped) after (round_at (q + suc d)) whole (length frames) half.room (native_size-pos kind),
-          outside, refl)
+          ∙ sym (append_assoc half.gone (half.round ∷ skipped) (round_at (q + suc d) ∷ after)) in (
+            body,
+            after,
+            rest,
+            half_run code outer.instr body outer.base half.placed (half.gone ++ half.round ∷ skipped) after (round_at (q + suc d)) whole (length frames) half.room (native_size-pos kind),
+            outside,
+            refl,
+          )
 
 -- what is left, ahead of an element whose rounds go on so
 module _ (code : List Instr) (kind : Kind) (place : ℕ) (x : ℤ) (frame_of : ℕ → Frame) (offset : ℕ → ℤ) where

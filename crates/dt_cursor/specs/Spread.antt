@@ -1,9 +1,10 @@
 -- What is left of the level at which a run stands.
-use Rattle.std.specs.Prelude.{◌≡◌, ℕ, suc, ◌+◌, ◌*◌, ◌^◌, ◌<◌, ◌≤◌, ◌+ℤ◌, ◌*ℤ◌, ℤ, pos, Bool, true, false, List, ◌∷◌, ◌++◌, map}
+use Rattle.std.specs.Prelude.{◌≡◌, ℕ, suc, ◌+◌, ◌*◌, ◌^◌, ◌<◌, ◌≤◌, ◌+ℤ◌, ◌*ℤ◌, ℤ, pos, nat_abs, Bool, true, false, List, ◌∷◌, ◌++◌, map}
 use Rattle.std.specs.List.{flat_map}
 use Rattle.dt_cursor.specs.declared.frames.Frame.{Frame}
 use Rattle.dt_cursor.specs.declared.level.Cut.{Cut}
 use Rattle.dt_cursor.specs.declared.level.Rest.{Rest}
+use Rattle.dt_cursor.specs.declared.taking.Left.{Left}
 use Rattle.dt_cursor.specs.Frames.{ToCome}
 use Rattle.dt_kinds.specs.declared.kind.Kind.{Kind}
 use Rattle.dt_kinds.specs.Kind.{native_size}
@@ -61,3 +62,11 @@ pub record IsCut (kind : Kind) (r : Rest) (c : Cut) : Type 0 where
   pub left : AreLeft r rows elements
   pub count : c.rows * c.elements ≡ rows * elements
   pub same : (x : ℤ) → spread kind x c.rows c.step c.elements (pos (native_size kind)) ≡ spread kind x rows r.jump elements r.step
+
+-- what is left under frames, the innermost of which is that of the level
+pub record IsLeft (code : List Instr) (kind : Kind) (x : ℤ) (frames : List Frame) (es : List Entry) (l : Left) : Type 0 where
+  pub others : List Frame
+  pub frames_are : frames ≡ l.outer ∷ others
+  pub rest : IsRest code kind x l.outer others es l.rest
+  pub near : nat_abs x < 2 ^ 63
+  pub outer_near : nat_abs l.outer.base < 2 ^ 63

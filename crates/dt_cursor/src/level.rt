@@ -102,7 +102,13 @@ fn turns_rest(turns: &Turns, inside: usize, frame: Frame, outer: Frame) -> Optio
 }
 
 /// What is left of a spot's copies from the element at a frame on, where the body at them is that element; it stands at a place.
-fn copies_rest(program: &Program, count: usize, inside: usize, frame: Frame, outer: Frame) -> Option<Rest>
+fn copies_rest(
+    program: &Program,
+    count: usize,
+    inside: usize,
+    frame: Frame,
+    outer: Frame,
+) -> Option<Rest>
     requires place { inside ≡ outer.instr + 1 + count }
     requires run { (sizes : Sizes) × (next : ℕ) × (frames : List frame_value.Frame) × (es : List entry.Entry) × (slice_get program.now outer.instr ≡ Some (Each count sizes next)) × StandAt program.now (frame ∷ outer ∷ frames) es }
     ensures rest { IfSome result (λ r. (sizes : Sizes) (next : ℕ) (kind : kinds.Kind) (frames : List frame_value.Frame) (es : List entry.Entry)

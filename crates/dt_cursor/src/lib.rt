@@ -13,6 +13,7 @@ mod passing;
 mod spots;
 mod standing;
 mod step;
+mod taking;
 mod totals;
 
 pub use cursor::Cursor;

@@ -3,7 +3,7 @@ use mir.Val.{to_z, of_z}
 use Rattle.std.proofs.lemmas.Int.{to_z-of_z}
 use Rattle.std.proofs.Math.Nat.{le-div_iff_mul-le}
 use Rattle.dt_offsets.proofs.Products.{factor_back}
-use Rattle.std.proofs.Common.{◌≡◌, ◌<◌, ◌≤◌, ◌*◌, ◌/◌, arith, ap, refl, ◌∙◌, sym, inl, inr}
+use Rattle.std.proofs.Common.{◌≡◌, ◌≤◌, ◌*◌, ◌/◌, arith, ap, ◌∙◌, inl, inr}
 use Rattle.dt_cursor.proofs.Cuts.{cut_row, cut_rows}
 use Rattle.dt_cursor.proofs.level.adjacent_rows.Goals as goal
 

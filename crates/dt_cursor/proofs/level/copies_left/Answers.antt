@@ -1,4 +1,4 @@
-use Rattle.std.proofs.Common.{◌≡◌, refl}
+use Rattle.std.proofs.Common.{refl}
 use Rattle.dt_offsets.proofs.Products.{factor_back}
 use Rattle.dt_cursor.proofs.Evenly.{rest_of_copies}
 use Rattle.dt_cursor.proofs.level.copies_left.Goals as goal

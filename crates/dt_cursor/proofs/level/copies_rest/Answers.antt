@@ -1,7 +1,7 @@
 use mir.Syntax.{w64, w128}
 use mir.Val.{to_z, of_z}
-use Rattle.std.specs.Prelude.{◌∷◌, List, pos, ◌*ℤ◌}
-use Rattle.std.proofs.Common.{◌≡◌, ◌+◌, ◌*◌, ◌<◌, ◌+ℤ◌, length, nat_abs, arith, ap, ◌∙◌, subst, sym}
+use Rattle.std.specs.Prelude.{pos, ◌*ℤ◌}
+use Rattle.std.proofs.Common.{◌≡◌, ◌+◌, ◌<◌, ◌+ℤ◌, length, nat_abs, arith, ap, ◌∙◌, subst, sym}
 use Rattle.std.proofs.lemmas.Option.{slice_get_within}
 use Rattle.dt_layout.specs.Body.{each}
 use Rattle.dt_offsets.proofs.Products.{factor_back}

@@ -2,7 +2,7 @@ use mir.Syntax.{w64, w128}
 use mir.Val.{to_z, of_z}
 use Rattle.std.proofs.lemmas.Int.{to_z-of_z}
 use Rattle.dt_offsets.proofs.Products.{factor_back}
-use Rattle.std.proofs.Common.{◌≡◌, ◌<◌, arith, ap, refl, ◌∙◌, sym, inl, inr}
+use Rattle.std.proofs.Common.{arith, ap, refl, ◌∙◌, inl, inr}
 use Rattle.dt_cursor.proofs.Cuts.{cut_singles}
 use Rattle.dt_cursor.proofs.level.single_rows.Goals as goal
 

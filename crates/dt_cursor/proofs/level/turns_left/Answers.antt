@@ -1,4 +1,4 @@
-use Rattle.std.proofs.Common.{◌≡◌, ◌<◌, arith, refl}
+use Rattle.std.proofs.Common.{arith, refl}
 use Rattle.dt_offsets.proofs.Products.{factor_back}
 use Rattle.dt_cursor.proofs.Evenly.{rest_in_block, rest_of_blocks}
 use Rattle.dt_cursor.proofs.level.turns_left.Goals as goal
