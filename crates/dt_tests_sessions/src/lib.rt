@@ -5,6 +5,8 @@
 #[cfg(test)]
 mod counts;
 #[cfg(test)]
+mod cursors;
+#[cfg(test)]
 mod finding;
 #[cfg(test)]
 mod images;

@@ -10,10 +10,12 @@ descend-requires c =
     let r = c.requires in
     let code = ap (λ (k : Counted). k.code) c.new-code.ensures in
     let all = c.args.next.frame ∷ c.args.frames.now in
-    let base = base_back c.args.program.now c.args.rep all c.args.next.at c.args.next.base r.0 r.1 r.2 r.3 in
-    (r.0, r.1,
-    sought_at c.new-code.result.code c.args.program.now c.args.rep c.push.new.self all c.args.next.at _ c.args.next.base 0 r.0 r.1 code c.push.ensures base
-    (first_sought c.args.program.now c.args.rep all c.args.next.at c.args.next.base r.0 r.1 r.2 r.3))
+    let base = base_back c.args.program.now c.args.rep all c.args.next.at c.args.next.base r.0 r.1 r.2 r.3 in (
+      r.0,
+      r.1,
+      sought_at c.new-code.result.code c.args.program.now c.args.rep c.push.new.self all c.args.next.at _ c.args.next.base 0 r.0 r.1 code c.push.ensures base
+          (first_sought c.args.program.now c.args.rep all c.args.next.at c.args.next.base r.0 r.1 r.2 r.3),
+    )
 
 pub returns : goal.returns
 returns c body es run some =
