@@ -1,4 +1,4 @@
-use Rattle.std.proofs.Common.{◌≡◌, length}
+use Rattle.std.proofs.Common.{◌≡◌}
 use Rattle.dt_tests_sessions.proofs.packing.other_piece.Given as goal
 
 -- the session stays over the buffer
