@@ -13,4 +13,6 @@ mod images;
 #[cfg(test)]
 mod overlapping;
 #[cfg(test)]
+mod packing;
+#[cfg(test)]
 mod programs;
