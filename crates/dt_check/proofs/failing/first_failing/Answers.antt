@@ -21,7 +21,7 @@ returns-in-Fails c =
     subst (IsTested c.args.w.now c.args.classes.now low (c.lengths.k + 1)) c.in-Fails.is (rw c.deref.ensures.value at c.in_ok-level.ensures) in
     let long : c.lengths.k + 1 ≡ c.in-Fails.start + c.lengths.k + 1 - c.in-Fails.start = omega arith in
     subst (IsFirstFailing c.args.w.now c.args.classes.now (table_of c.args.lows.now) c.in-Fails.start) long
-    (first_fails c.args.w.now c.args.classes.now low (table_of c.args.lows.now) c.lengths.k c.in-Fails.start c.lengths.sums c.in_ok-values.ensures.values c.lengths.invariant tested.0 tested.1 tested.2)
+    (first_fails c.args.w.now c.args.classes.now low (table_of c.args.lows.now) c.lengths.k c.in-Fails.start c.lengths.sums (λ start len segment. c.in_ok-values.ensures.values start len) c.lengths.invariant tested.0 tested.1 tested.2)
 
 pub lengths-preserved : goal.lengths-preserved
 lengths-preserved c =
@@ -33,5 +33,5 @@ lengths-preserved c =
 
 pub returns : goal.returns
 returns c =
-    all_valid c.args.w.now c.args.classes.now (table_in c.in_ok-values.values.items) (table_of c.args.lows.now) c.lengths.k c.lengths.sums c.in_ok-values.ensures.values c.lengths.invariant
+    all_valid c.args.w.now c.args.classes.now (table_in c.in_ok-values.values.items) (table_of c.args.lows.now) c.lengths.k c.lengths.sums (λ start len segment. c.in_ok-values.ensures.values start len) c.lengths.invariant
     (omega (arith, c.lengths-test.false, c.len-k-end.ensures.value))
