@@ -1,5 +1,5 @@
 -- the certificate of a least tree, composed
-use Rattle.std.proofs.Common.{◌≡◌, ◌⊎◌, inl, inr, ℕ, zero, suc, ◌+◌, ◌-◌, ◌*◌, ◌≤◌, ◌<◌, ◌≤ℤ◌, ◌-ℤ◌, ℤ, pos, nat_abs, Option, Some, None, List, [], ◌∷◌, ◌++◌, map, length, codes, decimal, refl, sym, ap, ◌∙◌, subst, arith, append_assoc, append-nil}
+use Rattle.std.proofs.Common.{◌≡◌, ℕ, ◌≤◌, ◌<◌, ◌≤ℤ◌, ◌-ℤ◌, ℤ, pos, nat_abs, Option, Some, None, List, [], ◌∷◌, ◌++◌, map, length, codes, decimal, sym, ap, ◌∙◌, subst, arith, append_assoc, append-nil}
 use mir.Syntax.{w64}
 use mir.Val.{to_z, of_z}
 use Rattle.std.specs.Fmt.{signed_decimal}
@@ -15,21 +15,17 @@ use Rattle.dt_tree.proofs.Limits.{step_back}
 use Rattle.dt_tree.specs.declared.node.Node.{Node}
 use Rattle.dt_tree.specs.Node.{tree_of}
 use Rattle.dt_tree.specs.Weights.{Weights, AreLight}
-use Rattle.dt_normal.specs.declared.best.Best.{Best}
 use Rattle.dt_normal.specs.declared.low.Low.{Low}
-use Rattle.dt_normal.specs.Bests.{IsBest, IsBestOf, IsBestTree, IsNoTree}
-use Rattle.dt_normal.specs.Lows.{listed, IsGreatest}
+use Rattle.dt_normal.specs.Bests.{IsBestOf, IsBestTree, IsNoTree}
 use Rattle.dt_normal.specs.Table.{Table, IsSegment, IsValid}
-use Rattle.dt_check.specs.Failing.{HoldsAt}
-use Rattle.dt_check.specs.Members.{IsMember, table_of}
+use Rattle.dt_check.specs.Members.{IsMember}
 use Rattle.dt_check.proofs.Everywhere.{valid_everywhere, valid_one}
 use Rattle.dt_check.proofs.Ones.{low_few}
 use Rattle.dt_spelling.specs.Spelling.{Words}
 use Rattle.dt_cert.specs.Certificate.{Certificate, ByClasses}
 use Rattle.dt_cert.specs.Classes.{AreRising, is_first, value_in}
-use Rattle.dt_cert.specs.Shown.{FollowsRuleIfAny, Holds, IsShown, IsWritable, StandsFor, cost_if_any}
-use Rattle.dt_cert.specs.Text.{text_of_line, text_of, lines_of, version_line, weights_line, entry_line, tree_line, value_line}
-use Rattle.dt_cert.specs.Written.{certificate_of}
+use Rattle.dt_cert.specs.Shown.{FollowsRuleIfAny, IsShown}
+use Rattle.dt_cert.specs.Text.{text_of_line, text_of, version_line, weights_line, entry_line, tree_line, value_line}
 use Rattle.dt_cert.proofs.Listed.{listed_members, listed_values, listed_rising, filter_rising, classes_give}
 
 -- one text behind another

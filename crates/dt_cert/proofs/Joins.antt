@@ -1,12 +1,10 @@
 -- lines joined from words, and texts from lines
 use Rattle.std.proofs.Common.{◌≡◌, ℕ, ◌+◌, ◌<◌, ◌≤◌, Bool, cond, true, false, List, [], ◌∷◌, ◌++◌, map, take, length, get_or, codes, refl, sym, ap, ◌∙◌, arith, append_assoc, append-nil}
 use Rattle.std.specs.List.{filter, flat_map, join_with_byte}
-use Rattle.std.proofs.lemmas.Grind.{flat_map-append}
 use Rattle.std.proofs.lemmas.List.{take_more, map_push, take_all}
-use Rattle.std.proofs.lemmas.List.Elements.{filter-append}
 use Rattle.dt_tree.specs.Tree.{Tree, leaf, vector, index, group}
 use Rattle.dt_spelling.specs.Spelling.{space, words_of, text_of as tree_text}
-use Rattle.dt_cert.specs.Text.{text_of_line, line_feed}
+use Rattle.dt_cert.specs.Text.{text_of_line}
 
 pub ruleset joins = (append_assoc)
 

@@ -1,16 +1,16 @@
 -- the list of a table's values above 0 rises, and by its first segments alone gives each segment the value of its class
 use Rattle.std.proofs.Common.{◌≡◌, ◌⊎◌, inl, inr, ℕ, zero, suc, ◌+◌, ◌-◌, ◌≤◌, ◌<◌, ◌==◌, ◌&&◌, ◌≢◌, Bool, true, false, cond, List, [], ◌∷◌, ◌++◌, map, length, refl, sym, ap, ◌∙◌, subst, arith, append-nil, eq-eqb}
-use Rattle.std.specs.List.{All, filter, flat_map}
+use Rattle.std.specs.List.{All, filter}
 use Rattle.std.proofs.lemmas.Bool.{cases_lt}
 use Rattle.std.proofs.lemmas.Bool.Decides.{eqb_tells}
 use Rattle.std.proofs.lemmas.Grind.{flat_map-append}
 use Rattle.std.proofs.lemmas.List.{map_push}
-use Rattle.std.proofs.lemmas.List.Elements.{All-nil, All-cons, All-head, All-tail, All-append, All-weaker, All-filter, filter-append, filter_passes}
+use Rattle.std.proofs.lemmas.List.Elements.{All-nil, All-cons, All-head, All-tail, All-append, All-weaker, All-filter, filter-append}
 use Rattle.dt_alike.specs.First.{first_alike}
 use Rattle.dt_alike.proofs.Filling.{first_is_least}
 use Rattle.dt_offsets.specs.Offsets.{below}
 use Rattle.dt_map.specs.declared.entry.Entry.{Entry}
-use Rattle.dt_map.specs.Alike.{segment, alike}
+use Rattle.dt_map.specs.Alike.{segment}
 use Rattle.dt_map.proofs.Likeness.{alike_is_equivalence}
 use Rattle.dt_tree.specs.Weights.{Weights}
 use Rattle.dt_normal.specs.declared.low.Low.{Low}

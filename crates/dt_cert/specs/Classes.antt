@@ -1,5 +1,5 @@
-use Rattle.std.specs.Prelude.{◌≡◌, ◌⊎◌, ℕ, ◌-◌, ◌<◌, ◌==◌, Bool, List, [], ◌∷◌, length}
-use Rattle.std.specs.List.{All, filter}
+use Rattle.std.specs.Prelude.{ℕ, ◌-◌, ◌==◌, Bool, List, [], ◌∷◌}
+use Rattle.std.specs.List.{All}
 use Rattle.dt_alike.specs.First.{first_alike}
 use Rattle.dt_map.specs.declared.entry.Entry.{Entry}
 use Rattle.dt_normal.specs.declared.low.Low.{Low}
