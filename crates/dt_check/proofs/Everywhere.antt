@@ -1,5 +1,5 @@
 -- validity segment by segment, and tables that are one table
-use Rattle.std.proofs.Common.{◌≡◌, inl, inr, ℕ, zero, suc, ◌+◌, ◌*◌, ◌≤◌, ◌<◌, Bool, true, false, cond, List, [], ◌∷◌, length, refl, sym, ◌∙◌, subst, arith}
+use Rattle.std.proofs.Common.{◌≡◌, inl, inr, ℕ, zero, suc, ◌+◌, ◌-◌, ◌*◌, ◌≤◌, ◌<◌, Option, Some, None, MatchOption, Bool, true, false, cond, List, [], ◌∷◌, length, refl, sym, ◌∙◌, subst, arith}
 use Rattle.std.specs.List.{All, sum}
 use Rattle.std.proofs.lemmas.Bool.{cases_lt}
 use Rattle.std.proofs.lemmas.List.Elements.{All-head, All-tail}
@@ -7,6 +7,7 @@ use Rattle.std.proofs.lemmas.List.Sums.{sum_by-cons}
 use Rattle.dt_map.specs.declared.entry.Entry.{Entry}
 use Rattle.dt_tree.specs.Weights.{Weights}
 use Rattle.dt_normal.specs.Table.{Table, IsSegment, is_split, least_to, least_run, cut_cost, IsValid}
+use Rattle.dt_check.specs.declared.failing.Segment.{Segment}
 use Rattle.dt_check.specs.declared.sums.Sums.{Sums}
 use Rattle.dt_check.specs.Failing.{HoldsAt, IsFirstFailing}
 use Rattle.dt_check.specs.Laws.{ValidEverywhere, OneFirstFailing}
@@ -99,19 +100,31 @@ pub valid_one : (w : Weights) (m : List Entry) (low other : Table) → AreOne m 
 valid_one w m low other same valid =
     (valid_everywhere w m other).1 (λ start len segment. holds_one w m low other start len same segment ((valid_everywhere w m low).0 valid start len segment))
 
+failing_one : (w : Weights) (m : List Entry) (low other : Table) (start len : ℕ) → AreOne m low other → IsFirstFailing w m low start len → IsFirstFailing w m other start len
+failing_one w m low other start len same is = record {
+  segment = is.segment;
+  fails = λ holds. is.fails (holds_one w m other low start len (one_back m low other same) is.segment holds);
+  first = λ s l segment earlier. holds_one w m low other s l same segment (is.first s l segment earlier);
+}
+
+-- what a search of one of them finds, one of the other finds too
+pub found_one : (w : Weights) (m : List Entry) (low other : Table) → AreOne m low other → (found : Option Segment)
+    → MatchOption found (IsValid w m low) (λ s. IsFirstFailing w m low s.from (s.to - s.from)) → MatchOption found (IsValid w m other) (λ s. IsFirstFailing w m other s.from (s.to - s.from))
+found_one w m low other same None valid = valid_one w m low other same valid
+found_one w m low other same (Some s) failing = failing_one w m low other s.from (s.to - s.from) same failing
+
 -- all segments hold
-pub all_valid : (w : Weights) (m : List Entry) (low other : Table) (most : ℕ) (sums : Sums) → AreOne m low other → AreKnown w m low most sums → length m ≤ most → IsValid w m other
-all_valid w m low other most sums same known end =
-    (valid_everywhere w m other).1 (λ start len segment. holds_one w m low other start len same segment (known.holds start len segment (omega (arith, segment.1))))
+pub all_valid : (w : Weights) (m : List Entry) (low : Table) (most : ℕ) (sums : Sums) → AreKnown w m low most sums → length m ≤ most → IsValid w m low
+all_valid w m low most sums known end = (valid_everywhere w m low).1 (λ start len segment. known.holds start len segment (omega (arith, segment.1)))
 
 -- the first one that doesn't
-pub first_fails : (w : Weights) (m : List Entry) (low other : Table) (k start : ℕ) (sums : Sums) → AreOne m low other → AreKnown w m low k sums → start + (k + 1) ≤ length m
-    → ¬ HoldsAt w m low start (k + 1) → ((s : ℕ) → s < start → HoldsAt w m low s (k + 1)) → IsFirstFailing w m other start (k + 1)
-first_fails w m low other k start sums same known inside fails before = record {
+pub first_fails : (w : Weights) (m : List Entry) (low : Table) (k start : ℕ) (sums : Sums) → AreKnown w m low k sums → start + (k + 1) ≤ length m
+    → ¬ HoldsAt w m low start (k + 1) → ((s : ℕ) → s < start → HoldsAt w m low s (k + 1)) → IsFirstFailing w m low start (k + 1)
+first_fails w m low k start sums known inside fails before = record {
   segment = (omega arith, inside);
-  fails = λ holds. fails (holds_one w m other low start (k + 1) (one_back m low other same) (omega arith, inside) holds);
-  first = λ s l segment earlier. holds_one w m low other s l same segment (elim earlier [
+  fails = fails;
+  first = λ s l segment earlier. elim earlier [
     | inl shorter ↦ known.holds s l segment (omega arith)
     | inr as_long ↦ subst (HoldsAt w m low s) (sym as_long.0) (before s as_long.1)
-  ]);
+  ];
 }
