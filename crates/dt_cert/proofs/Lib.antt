@@ -1,0 +1,4 @@
+pub mod Composing
+pub mod Joins
+pub mod Listed
+pub mod Showing

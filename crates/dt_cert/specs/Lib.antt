@@ -1,0 +1,6 @@
+pub mod Certificate
+pub mod Classes
+pub mod Laws
+pub mod Shown
+pub mod Text
+pub mod Written

@@ -1,0 +1,7 @@
+//! Laws of certificates, stated over their definitions. The functions do nothing.
+ghost use Rattle.dt_cert.specs.Laws.{ShownIsLeast};
+
+/// The tree of a certificate that is shown stands for its entries, and no tree that does, from whatever base on, costs less.
+pub fn shown_is_least()
+    ensures { ShownIsLeast }
+{}

@@ -1,0 +1,9 @@
+//! Certificates: texts that show that a tree is least, by additions and comparisons alone.
+#![tactic(auto)]
+
+mod classes;
+pub mod laws;
+mod lines;
+pub mod writing;
+
+pub use writing::write_cert;
