@@ -1,5 +1,7 @@
+pub mod ByLevels
 pub mod Elements
 pub mod IntoCopies
+pub mod IntoParts
 pub mod Narrowing
 pub mod Placed
 pub mod Reading

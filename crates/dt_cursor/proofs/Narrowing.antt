@@ -3,8 +3,8 @@ use lib.Signed.{mag}
 use mir.Syntax.{w64, w128}
 use mir.Val.{to_z, of_z}
 use Rattle.std.specs.Prelude.{◌≡◌, Some, ℕ, suc, ◌+◌, ◌*◌, ◌<◌, ◌≤◌, ℤ, ◌+ℤ◌, pos, nat_abs, ◌^◌, List, [], ◌∷◌, ◌++◌, map, length, take, drop, slice_get}
-use Rattle.std.proofs.Common.{refl, sym, ap, subst, ◌∙◌, arith, append-nil}
-use Rattle.std.proofs.lemmas.Int.{to_z-of_z}
+use Rattle.std.proofs.Common.{refl, sym, ap, subst, ◌∙◌, arith, append_assoc, append-nil}
+use Rattle.std.proofs.lemmas.Int.{to_z-of_z, fits_signed_from_abs}
 use Rattle.std.proofs.lemmas.List.{map-append, length-take-le}
 use Rattle.std.proofs.lemmas.List.Sums.{sum_by-cons}
 use Rattle.std.proofs.Math.Seq.{split_at}
@@ -12,14 +12,14 @@ use Rattle.dt_cursor.specs.declared.frames.Frame.{Frame}
 use Rattle.dt_cursor.specs.Frames.{at_element}
 use Rattle.dt_cursor.specs.Rounds.{Round, turn_round, rounds, elements_of}
 use Rattle.dt_cursor.specs.Search.{AreHeld, IsFound, IsSought, IsNarrowed, size_in}
-use Rattle.dt_cursor.proofs.Reading.{head_is, one_here, loop_here, each_here}
+use Rattle.dt_cursor.proofs.Reading.{head_is, one_here, loop_here, each_here, seq_here}
 use Rattle.dt_cursor.proofs.Running.{round_is_pushed, element_is_pushed}
 use Rattle.dt_kinds.specs.declared.kind.Kind.{Kind}
 use Rattle.dt_kinds.specs.declared.kind.Rep.{Rep}
 use Rattle.dt_kinds.specs.declared.kind.Rep.TheVariants.{Native, External32}
 use Rattle.dt_kinds.specs.Kind.{packed_size}
 use Rattle.dt_kinds.proofs.Table.{native_size-pos}
-use Rattle.dt_layout.specs.Body.{Body, one, loop, each, meaning, size, sizes_of, width}
+use Rattle.dt_layout.specs.Body.{Body, one, loop, each, seq, Parts, meaning, size, sizes_of, width, widths, number_of}
 use Rattle.dt_layout.specs.declared.instr.Instr.{Instr}
 use Rattle.dt_layout.specs.declared.instr.Instr.TheVariants as variants
 use Rattle.dt_layout.specs.declared.instr.Sizes.{Sizes}
@@ -42,20 +42,33 @@ pub some_native : (rep : Rep) (body : Body) → 0 < size rep body → 0 < size N
 some_native rep body some =
     subst (λ n. 0 < n) (size_is_total Native body (pos 0)) (some_total rep (meaning body (pos 0)) (subst (λ n. 0 < n) (sym (size_is_total rep body (pos 0))) some))
 
+-- a byte that is sought in a round, whose frame is pushed
+pub record IsInRound (code : List Instr) (rep : Rep) (frames : List Frame) (left : ℕ) (es : List Entry) (round : Round) (less : ℕ) : Type 0 where
+  pub inside : List Entry
+  pub sought : IsSought code rep (round.frame ∷ frames) round.at round.offset less round.body inside
+  pub gone : List Entry
+  pub all : es ≡ gone ++ inside
+  pub place : left ≡ total rep gone + less
+
 module _ (code : List Instr) (rep : Rep) (frames : List Frame) (at : ℕ) (x : ℤ) (left : ℕ) (es : List Entry) where
-  -- into a round
-  pub narrowed : (body : Body) → IsSought code rep frames at x left body es → (gone later : List Round) (round : Round) → rounds at body x ≡ gone ++ round ∷ later
-      → (less : ℕ) → left ≡ total rep (elements_of gone) + less → less < size rep round.body → IsNarrowed code rep es left (round.frame ∷ frames) round.at round.offset less
-  narrowed body sought gone later round split less place within =
+  -- into a round: the byte is sought in its body
+  pub in_round : (body : Body) → IsSought code rep frames at x left body es → (gone later : List Round) (round : Round) → rounds at body x ≡ gone ++ round ∷ later
+      → (less : ℕ) → left ≡ total rep (elements_of gone) + less → less < size rep round.body → IsInRound code rep frames left es round less
+  in_round body sought gone later round split less place within =
       let pushed = round_is_pushed code frames at body x es gone later round sought.run split (some_native rep round.body (omega (arith, within))) in
       record {
-        body = round.body;
         inside = pushed.0;
         sought = record { run = pushed.1; most = omega (arith, within); inner = λ some. within };
         gone = elements_of gone;
         all = pushed.2;
         place = place;
       }
+
+  pub narrowed : (body : Body) → IsSought code rep frames at x left body es → (gone later : List Round) (round : Round) → rounds at body x ≡ gone ++ round ∷ later
+      → (less : ℕ) → left ≡ total rep (elements_of gone) + less → less < size rep round.body → IsNarrowed code rep es left (round.frame ∷ frames) round.at round.offset less
+  narrowed body sought gone later round split less place within =
+      let r = in_round body sought gone later round split less place within in
+      record { body = round.body; inside = r.inside; sought = r.sought; near = r.sought.run.placed.offset (some_native rep round.body (omega (arith, within))); gone = r.gone; all = r.all; place = r.place }
 
   -- at the end
   pub ended : (body : Body) → IsSought code rep frames at x left body es → size rep body ≤ left → (new : List Frame) → new ≡ frames → IsFound code rep es left new 0
@@ -106,13 +119,6 @@ module _ (code : List Instr) (rep : Rep) (frames : List Frame) (at : ℕ) (x : �
       let count : total rep (elements_of gone) ≡ q * size rep b = turns_total b t (take q all) ∙ ap (λ n. n * size rep b) (length-take-le q all (omega (arith, there))) in
       narrowed (loop t b) sought gone (map (turn_round at t b x) (drop (suc q) all)) (turn_round at t b x q) split less (omega (arith, place, count)) small
 
--- the offset of a body in which a byte is sought is in range
-pub near : (code : List Instr) (rep : Rep) (es : List Entry) (left : ℕ) (frame : Frame) (frames : List Frame) (at : ℕ) (x : ℤ) (less : ℕ) → IsNarrowed code rep es left (frame ∷ frames) at x less
-    → nat_abs x < 2 ^ 63
-near code rep es left frame frames at x less n =
-    let within = n.sought.inner (omega arith) in
-    n.sought.run.placed.offset (some_native rep n.body (omega (arith, within)))
-
 pub size_is : (rep : Rep) (b : Body) → size_in rep (sizes_of b) ≡ size rep b
 size_is Native b = refl
 size_is External32 b = refl
@@ -134,6 +140,12 @@ module _ (code : List Instr) (rep : Rep) (frames : List Frame) (at : ℕ) (x : �
       let is = each_here at body count sizes next (head_is code at body x sought.run.placed (variants.Each count sizes next) got) in
       (is.0, is.1, subst (λ b. IsSought code rep frames at x left b es) is.2 sought, is.3, ap (size_in rep) is.4 ∙ size_is rep is.1, is.5)
 
+  pub sought_seq : (count next : ℕ) → slice_get code at ≡ Some (variants.Seq count next)
+      → (parts : Parts) × IsSought code rep frames at x left (seq parts) es × (number_of parts ≡ count) × (next ≡ at + (widths parts + 2))
+  sought_seq count next got =
+      let is = seq_here at body count next (head_is code at body x sought.run.placed (variants.Seq count next) got) in
+      (is.0, subst (λ b. IsSought code rep frames at x left b es) is.1 sought, is.2, is.3)
+
 -- numbers with a sign that were written down and read again
 pub back64 : (x : ℤ) → mag x < 9223372036854775808 → to_z w64 (of_z w64 x) ≡ x
 back64 x fits = to_z-of_z w64 x (record { sfits = fits })
@@ -141,6 +153,26 @@ back64 x fits = to_z-of_z w64 x (record { sfits = fits })
 pub back128 : (x : ℤ) → mag x < 170141183460469231731687303715884105728 → to_z w128 (of_z w128 x) ≡ x
 back128 x fits = to_z-of_z w128 x (record { sfits = fits })
 
+pub again : (x : ℤ) → nat_abs x < 2 ^ 63 → to_z w64 (of_z w64 x) ≡ x
+again x near = to_z-of_z w64 x (fits_signed_from_abs w64 x near)
+
+pub sought_again : (code : List Instr) (rep : Rep) (frames : List Frame) (at : ℕ) (x : ℤ) (left : ℕ) (body : Body) (es : List Entry) → to_z w64 (of_z w64 x) ≡ x
+    → IsSought code rep frames at x left body es → IsSought code rep frames at (to_z w64 (of_z w64 x)) left body es
+sought_again code rep frames at x left body es back = subst (λ y. IsSought code rep frames at y left body es) (sym back)
+
 pub framed : (new frames : List Frame) (at turn copy : ℕ) (y x : ℤ) → new ≡ (record { instr = at; turn = turn; base = y; copy = copy }) ∷ frames → y ≡ x
     → new ≡ (record { instr = at; turn = turn; base = x; copy = copy }) ∷ frames
 framed new frames at turn copy y x is same = is ∙ ap (λ z. (let f : Frame = record { instr = at; turn = turn; base = z; copy = copy } in f) ∷ frames) same
+
+-- in a round, and then further on in its body
+pub narrowed_twice : (code : List Instr) (rep : Rep) (outer : List Frame) (left : ℕ) (es : List Entry) (round : Round) (mid : ℕ) (r : IsInRound code rep outer left es round mid)
+    → (frames : List Frame) (inner : ℕ) (y : ℤ) (less : ℕ) → IsNarrowed code rep r.inside mid frames inner y less → IsNarrowed code rep es left frames inner y less
+narrowed_twice code rep outer left es round mid r frames inner y less m = record {
+  body = m.body;
+  inside = m.inside;
+  sought = m.sought;
+  near = m.near;
+  gone = r.gone ++ m.gone;
+  all = r.all ∙ ap (λ s. r.gone ++ s) m.all ∙ sym (append_assoc r.gone m.gone m.inside);
+  place = let first = r.place in let then = m.place in let both = total-append rep r.gone m.gone in omega (arith, first, then, both);
+}

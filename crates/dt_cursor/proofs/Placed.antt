@@ -36,7 +36,7 @@ elements_copies at inside b x number (s ∷ spots) =
     ∙ ap (λ es. elements_of (map (copy_round at inside b x number s) (below s.copies)) ++ es) (elements_copies at inside b x (number + 1) spots)
     ∙ sym (flat_map-append (λ (r : Round). meaning r.body r.offset) (map (copy_round at inside b x number s) (below s.copies)) (copy_rounds at inside b x (number + 1) spots))
 
-elements_parts : (at place : ℕ) (parts : Parts) (x : ℤ) → meanings parts x ≡ elements_of (part_rounds at place parts x)
+pub elements_parts : (at place : ℕ) (parts : Parts) (x : ℤ) → meanings parts x ≡ elements_of (part_rounds at place parts x)
 elements_parts at place no_parts x = refl
 elements_parts at place (part t b parts) x = ap (λ es. meaning (loop t b) x ++ es) (elements_parts at (place + (width b + 2)) parts x)
 

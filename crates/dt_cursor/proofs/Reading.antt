@@ -6,7 +6,7 @@ use Rattle.dt_cursor.specs.Frames.{IsPlaced}
 use Rattle.dt_cursor.specs.Search.{AreSpots}
 use Rattle.dt_layout.proofs.Bodies.{length-spelling}
 use Rattle.dt_kinds.specs.declared.kind.Kind.{Kind}
-use Rattle.dt_layout.specs.Body.{Body, one, loop, each, seq, sizes_of, width, widths, number_of}
+use Rattle.dt_layout.specs.Body.{Body, one, loop, each, seq, Parts, sizes_of, width, widths, number_of}
 use Rattle.dt_layout.specs.declared.instr.Instr.{Instr}
 use Rattle.dt_layout.specs.declared.instr.Instr.TheVariants as variants
 use Rattle.dt_layout.specs.declared.instr.Sizes.{Sizes}
@@ -80,6 +80,13 @@ each_here at (one k) count sizes next e = cc
 each_here at (loop u b) count sizes next e = cc
 each_here at (each spots b) count sizes next e = (spots, b, refl, cc, cc, cc)
 each_here at (seq parts) count sizes next e = cc
+
+pub seq_here : (at : ℕ) (body : Body) (count next : ℕ) → head_of at body ≡ variants.Seq count next
+    → (parts : Parts) × (body ≡ seq parts) × (number_of parts ≡ count) × (next ≡ at + (widths parts + 2))
+seq_here at (one k) count next e = cc
+seq_here at (loop u b) count next e = cc
+seq_here at (each spots b) count next e = cc
+seq_here at (seq parts) count next e = (parts, refl, cc, cc)
 
 -- spots after a head
 get_spot : (before : List Instr) (head : Instr) (spots : List Spot) (after : List Instr) (i : ℕ) (spot : Spot) → slice_get spots i ≡ Some spot

@@ -42,12 +42,26 @@ impl Frames {
         }
     }
 
+    /// How many levels there are.
+    pub fn len(&self) -> usize
+        ensures { result ≡ length self.now }
+    {
+        self.levels.len()
+    }
+
     /// One level further in.
     pub(crate) fn push(&mut self, frame: Frame)
         requires { length self.old < 130 }
         ensures { self.new ≡ frame ∷ self.old }
     {
         self.levels.push(frame);
+    }
+
+    /// Leaves all levels.
+    pub(crate) fn clear(&mut self)
+        ensures { self.new ≡ [] }
+    {
+        self.levels.clear();
     }
 
     /// The innermost level.

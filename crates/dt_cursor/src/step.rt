@@ -1,6 +1,7 @@
 //! One level of the search for a packed byte.
-ghost use Rattle.std.specs.Prelude.{◌≡◌, ◌+◌, ◌*◌, ◌^◌, ◌<◌, ◌≤◌, ◌+ℤ◌, nat_abs, Some, slice_get, List, IfSome, IfNone, length};
-ghost use Rattle.dt_cursor.specs.Search.{IsSought, IsStep, size_in};
+ghost use Rattle.std.specs.Prelude.{◌≡◌, ℕ, ◌+◌, ◌*◌, ◌^◌, ◌<◌, ◌≤◌, ◌+ℤ◌, nat_abs, Some, slice_get, List, IfSome, IfNone, length};
+ghost use Rattle.dt_cursor.specs.Search.{EntersNext, IsFound, IsNarrowed, IsSought, IsStep, IsTurnSought, size_in};
+ghost use Rattle.dt_kinds.specs.declared.kind.Rep as reps;
 ghost use Rattle.dt_kinds.specs.Kind.{packed_size};
 ghost use Rattle.dt_layout.specs.Body.{Body};
 ghost use Rattle.dt_layout.specs.declared.instr.Instr as instr;
@@ -83,7 +84,7 @@ pub(crate) fn moved(base: i64, by: i128) -> i64
     (i128::from(base) + by) as i64
 }
 
-/// At an element.
+/// At an element: its frame is pushed where it holds the byte, and else the byte is the end.
 pub(crate) fn at_one(
     kind: Kind,
     rep: Rep,
@@ -91,12 +92,13 @@ pub(crate) fn at_one(
     base: i64,
     left: u64,
     frames: &mut Frames,
-) -> Step
+) -> u8
     requires { (code : List instr.Instr) × (body : Body) × (es : List entry.Entry) × (slice_get code at ≡ Some (One kind)) × IsSought code rep frames.old at base left body es }
-    ensures { (code : List instr.Instr) → slice_get code at ≡ Some (One kind) → IsStep code rep frames.old at base left frames.new result }
+    ensures { (code : List instr.Instr) (body : Body) (es : List entry.Entry) → slice_get code at ≡ Some (One kind) → IsSought code rep frames.old at base left body es
+        → IsFound code rep es left frames.new result }
 {
     if left >= bytes_of(kind, rep) {
-        return Step::At(0);
+        return 0;
     }
     frames.push(Frame {
         instr: at,
@@ -104,7 +106,35 @@ pub(crate) fn at_one(
         base,
         copy: 0,
     });
-    Step::At(left as u8)
+    left as u8
+}
+
+/// Into a turn of a loop that stands at a place: the one that holds a byte of the loop.
+pub(crate) fn into_turn(
+    turns: &Turns,
+    at: usize,
+    base: i64,
+    turn: Copied,
+    frames: &mut Frames,
+) -> Inner
+    requires fits { at + 1 < 2 ^ 64 }
+    requires sought { (code : List instr.Instr) × (rep : reps.Rep) × (left : ℕ) × (body : Body) × (es : List entry.Entry) × IsTurnSought code rep frames.old at base turns.now turn left body es }
+    ensures inside { result.at ≡ at + 1 }
+    ensures narrowed { (code : List instr.Instr) (rep : reps.Rep) (left : ℕ) (body : Body) (es : List entry.Entry) → IsTurnSought code rep frames.old at base turns.now turn left body es
+        → IsNarrowed code rep es left frames.new result.at result.base result.left }
+{
+    let by = turn_at(turns, turn.number);
+    frames.push(Frame {
+        instr: at,
+        turn: turn.number,
+        base,
+        copy: 0,
+    });
+    Inner {
+        at: at + 1,
+        base: moved(base, by),
+        left: turn.left,
+    }
 }
 
 /// Into a turn of a loop.
@@ -119,21 +149,11 @@ pub(crate) fn at_loop(
     frames: &mut Frames,
 ) -> Step
     requires { (code : List instr.Instr) × (body : Body) × (es : List entry.Entry) × (slice_get code at ≡ Some (Loop turns.now sizes next)) × IsSought code rep frames.old at base left body es }
-    ensures { (code : List instr.Instr) → slice_get code at ≡ Some (Loop turns.now sizes next) → IsStep code rep frames.old at base left frames.new result }
+    ensures step { (code : List instr.Instr) → slice_get code at ≡ Some (Loop turns.now sizes next) → IsStep code rep frames.old at base left frames.new result }
+    ensures enters { EntersNext at result }
 {
     let Some(turn) = share(left, turns.count, size_by(sizes, rep)) else {
         return Step::At(0);
     };
-    let by = turn_at(turns, turn.number);
-    frames.push(Frame {
-        instr: at,
-        turn: turn.number,
-        base,
-        copy: 0,
-    });
-    Step::In(Inner {
-        at: at + 1,
-        base: moved(base, by),
-        left: turn.left,
-    })
+    Step::In(into_turn(turns, at, base, turn, frames))
 }

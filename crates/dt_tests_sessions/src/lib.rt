@@ -5,6 +5,8 @@
 #[cfg(test)]
 mod counts;
 #[cfg(test)]
+mod finding;
+#[cfg(test)]
 mod images;
 #[cfg(test)]
 mod overlapping;

@@ -6,7 +6,7 @@ use Rattle.dt_cursor.specs.Search.{IsNarrowed}
 use Rattle.dt_layout.specs.Body.{each, size as size_of}
 use Rattle.dt_offsets.specs.Offsets.{spot_offsets}
 use Rattle.dt_cursor.proofs.IntoCopies.{into_copy, past_copies}
-use Rattle.dt_cursor.proofs.Narrowing.{ended, near, sought_each, back64, back128, framed}
+use Rattle.dt_cursor.proofs.Narrowing.{ended, sought_each, back64, back128, framed}
 use Rattle.dt_cursor.proofs.Reading.{ends_within, spots_here}
 use Rattle.dt_cursor.proofs.SpotCopies.{spot_lawful}
 use Rattle.dt_offsets.proofs.Products.{factor_back}
@@ -146,7 +146,7 @@ moved-requires g c =
     let base = back64 c.args.base c.ranges.base.sfits in
     let n = into_copy (g.C.Code.program c.args.code.now) c.args.rep c.args.frames.now c.args.at c.args.base c.args.left r.1 s.0 s.1 s.2 (c.args.left / c.size_by-size.result) (c.args.left % c.size_by-size.result) c.in-Some.found found place less in
     subst (λ x. nat_abs x < 9223372036854775808) (ap (λ x. x +ℤ offset) (sym base) ∙ ap (λ y. to_z w64 (of_z w64 c.args.base) +ℤ y) (sym by))
-    (near (g.C.Code.program c.args.code.now) c.args.rep r.1 c.args.left _ c.args.frames.now _ (c.args.base +ℤ offset) _ n)
+    n.near
 
 pub returns-clause-step : goal.returns-clause-step
 returns-clause-step g c body es sought =
