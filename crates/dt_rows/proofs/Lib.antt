@@ -5,3 +5,5 @@ pub mod Gathering
 pub mod InsideRows
 pub mod Joined
 pub mod RowBytes
+pub mod SettingRows
+pub mod Stored

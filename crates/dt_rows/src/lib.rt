@@ -2,9 +2,13 @@
 #![tactic(auto)]
 
 mod external;
+mod into_buffer;
 mod piece;
 mod pieces;
 pub mod rows;
+mod store;
+mod stores;
 mod turned;
 
+pub use into_buffer::scatter;
 pub use rows::{Rows, Run};
