@@ -1,9 +1,16 @@
 pub mod ByLevels
+pub mod Climbing
 pub mod Elements
+pub mod Halfway
 pub mod IntoCopies
 pub mod IntoParts
+pub mod Keeping
+pub mod Named
 pub mod Narrowing
+pub mod NextRounds
+pub mod Options
 pub mod Placed
 pub mod Reading
 pub mod Running
 pub mod SpotCopies
+pub mod Sums

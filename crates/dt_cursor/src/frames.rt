@@ -1,5 +1,5 @@
 //! Where a run of a loop program stands.
-ghost use Rattle.std.specs.Prelude.{◌≡◌, ◌<◌, [], ◌∷◌, length, slice_get};
+ghost use Rattle.std.specs.Prelude.{◌≡◌, ◌<◌, [], ◌∷◌, length, slice_get, IfSome, IfNone};
 
 use arrayvec::ArrayVec;
 use std::marker::Model;
@@ -55,6 +55,14 @@ impl Frames {
         ensures { self.new ≡ frame ∷ self.old }
     {
         self.levels.push(frame);
+    }
+
+    /// Takes the innermost level away, or answers `None` where there is none.
+    pub(crate) fn pop(&mut self) -> Option<Frame>
+        ensures some { IfSome result (λ frame. self.old ≡ frame ∷ self.new) }
+        ensures none { IfNone result ((self.old ≡ []) × (self.new ≡ [])) }
+    {
+        self.levels.pop()
     }
 
     /// Leaves all levels.

@@ -1,14 +1,21 @@
 //! Any byte of a loop program, found by few reads: frames stand at the element that holds it.
 #![tactic(auto)]
 
+mod climb;
+pub mod cursor;
 mod finding;
 pub mod frames;
 pub mod laws;
+mod onward;
 mod parts;
+mod passing;
 mod spots;
 mod standing;
 mod step;
+mod totals;
 
+pub use cursor::Cursor;
+pub use dt_rows::{Rows, Run};
 pub use finding::find;
 pub use frames::{Frame, Frames};
 pub use standing::here;

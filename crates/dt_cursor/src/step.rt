@@ -38,7 +38,7 @@ pub(crate) struct Copied {
 }
 
 /// The bytes of an element.
-fn bytes_of(kind: Kind, rep: Rep) -> u64
+pub(crate) fn bytes_of(kind: Kind, rep: Rep) -> u64
     ensures { result ≡ packed_size rep kind }
 {
     match rep {

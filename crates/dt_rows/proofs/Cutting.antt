@@ -1,5 +1,5 @@
 -- The first bytes of what stands in external32 for adjacent elements, and its bytes from inside the first element on.
-use Rattle.std.proofs.Common.{◌≡◌, ℕ, suc, ◌+◌, ◌-◌, ◌*◌, ◌≤◌, ◌<◌, ℤ, pos, ◌+ℤ◌, ◌*ℤ◌, ◌≤ℤ◌, List, [], ◌∷◌, ◌++◌, take, drop, length, reverse, refl, sym, ap, ◌∙◌, arith, append-nil, length-drop}
+use Rattle.std.proofs.Common.{◌≡◌, ℕ, suc, ◌+◌, ◌-◌, ◌*◌, ◌≤◌, ◌<◌, ℤ, pos, ◌+ℤ◌, ◌*ℤ◌, List, [], ◌∷◌, ◌++◌, take, drop, length, reverse, refl, sym, ap, ◌∙◌, arith, append-nil, length-drop}
 use Rattle.std.specs.Prelude.{nat_abs}
 use Rattle.std.specs.List.{flat_map}
 use Rattle.std.proofs.lemmas.Int.{ints}
@@ -9,7 +9,7 @@ use Rattle.std.proofs.Math.Seq.{take-append-add}
 use Rattle.dt_kinds.specs.declared.kind.Kind.{Kind}
 use Rattle.dt_kinds.specs.Kind.{native_size, external_size}
 use Rattle.dt_kinds.proofs.Table.{external_is_no_larger}
-use Rattle.dt_offsets.specs.Offsets.{below, row_offsets}
+use Rattle.dt_offsets.specs.Offsets.{below}
 use Rattle.dt_rows.specs.Pieces.{bytes_from, turned, turned_row, IsPiece}
 use Rattle.dt_rows.proofs.Joined.{joined_same, joined_split, length-joined}
 use Rattle.dt_rows.proofs.RowBytes.{pieces_by_number}

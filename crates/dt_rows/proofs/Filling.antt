@@ -1,7 +1,9 @@
 -- Lists that were filled with the first bytes of a row, or with its bytes from inside the first element on.
 use borrow.Rule.Slice.PartMut.{put_mid}
-use Rattle.std.proofs.Common.{◌≡◌, ℕ, suc, ◌+◌, ◌-◌, ◌*◌, ◌/◌, ◌≤◌, ◌<◌, ℤ, pos, ◌+ℤ◌, ◌*ℤ◌, List, [], ◌++◌, take, drop, length, reverse, inl, inr, refl, sym, ap, ◌∙◌, arith, append-nil, length-drop}
+use Rattle.std.proofs.Common.{◌≡◌, ℕ, suc, ◌+◌, ◌-◌, ◌*◌, ◌/◌, ◌≤◌, ◌<◌, ℤ, pos, ◌+ℤ◌, ◌*ℤ◌, List, [], ◌++◌, take, drop, length, reverse, inl, inr, refl, sym, ap, ◌∙◌, arith, append-nil, length-drop, length-append}
+use Rattle.std.specs.Prelude.{min}
 use Rattle.std.proofs.lemmas.Bool.{cases_lt}
+use Rattle.std.proofs.lemmas.Int.{ints}
 use Rattle.std.proofs.lemmas.List.{take_at, drop_at, drop_all, length-take-le}
 use Rattle.std.proofs.lemmas.Nat.{mul-le}
 use Rattle.std.proofs.Math.Nat.{lt-div-mul-add, div-mul-le_self}
@@ -12,7 +14,7 @@ use Rattle.dt_offsets.specs.Offsets.{row_offsets}
 use Rattle.dt_rows.specs.Pieces.{pieces, turned, turned_row, IsPiece}
 use Rattle.dt_rows.proofs.Cutting.{length-row, whole_leading, more_leading, cut_in_one, cut_and_more}
 
-fewer : (a b e : ℕ) → a * e < b * e → a < b
+pub fewer : (a b e : ℕ) → a * e < b * e → a < b
 fewer a b e lt =
     elim (cases_lt a b) [
       | inl less ↦ less
@@ -117,3 +119,35 @@ module _ (kind : Kind) (buffer : List ℕ) (n : ℕ) (start : ℤ) (inside : IsP
       filled_whole w size old mid
       (is ∙ ap (λ x. pieces reverse ext buffer (row_offsets x w size) ++ drop (w * ext) old) first) wide long
       (no_more w n ext some (omega (arith, long, room)))
+
+  -- from inside the first element on, as much as has room
+  pub filled_from_cut : (e skip h : ℕ) (begin size next : ℤ) (old cut rest : List ℕ) → let mid = cut ++ drop h old in
+      0 < n → skip < ext → e ≡ ext → h ≡ min (length old) (e - skip) → begin ≡ start → size ≡ pos (native_size kind) → next ≡ begin +ℤ (pos 1 *ℤ size)
+      → length cut ≡ length (take h old) → h < length mid
+      → cut ≡ take (length (take h old)) (drop skip (turned kind buffer begin))
+      → rest ≡ take (length (take (length mid - h) (drop h mid))) (turned_row kind (n - 1) buffer next)
+      → put_mid h (length mid - h) mid rest ≡ take (length old) (drop skip (turned_row kind n buffer start))
+  filled_from_cut e skip h begin size next old cut rest some within same least first wide there even more put after =
+      let mid = cut ++ drop h old in
+      let front : length (take h old) ≡ h = length-take-le h old (omega (arith, least)) in
+      let whole = length-append cut (drop h old) in
+      let left = length-drop h old in
+      let long : length mid ≡ length old = omega (arith, whole, left, even, front, least) in
+      let head : skip + h ≡ ext = omega (arith, least, same, within, more, long) in
+      let tail : length (take (length mid - h) (drop h mid)) ≡ length old - h =
+      length-take-le (length mid - h) (drop h mid) (omega (arith, length-drop h mid)) ∙ ap (λ m. m - h) long in
+      let place : next ≡ start +ℤ size = omega (arith, ints, there, first) in
+      filled_and_more skip h (length mid - h) (length old - h) next size old cut rest some head (omega (arith, more, long)) (omega (arith, long)) (even ∙ front)
+      (put ∙ ap (λ m. take m (drop skip (turned kind buffer begin))) front ∙ ap (λ x. take h (drop skip (turned kind buffer x))) first)
+      place wide (after ∙ ap (λ m. take m (turned_row kind (n - 1) buffer next)) tail)
+
+  pub filled_inside_one : (e skip h : ℕ) (begin : ℤ) (old cut : List ℕ) →
+      0 < n → skip < ext → e ≡ ext → h ≡ min (length old) (e - skip) → begin ≡ start → length cut ≡ length (take h old) → length (cut ++ drop h old) ≤ h
+      → cut ≡ take (length (take h old)) (drop skip (turned kind buffer begin))
+      → cut ++ drop h old ≡ take (length old) (drop skip (turned_row kind n buffer start))
+  filled_inside_one e skip h begin old cut some within same least first even all put =
+      let front : length (take h old) ≡ h = length-take-le h old (omega (arith, least)) in
+      let whole = length-append cut (drop h old) in
+      let left = length-drop h old in
+      filled_in_one skip h old cut some (omega (arith, least, same, within)) (omega (arith, whole, left, even, front, all)) (omega (arith, least))
+      (put ∙ ap (λ m. take m (drop skip (turned kind buffer begin))) front ∙ ap (λ x. take h (drop skip (turned kind buffer x))) first)

@@ -18,7 +18,14 @@ fn put_row(kind: Kind, elements: u64, buffer: &[u8], from: i64, out: &mut [u8], 
     ensures value { out.new ≡ written out.old to (turned_row kind elements buffer.now from) }
     ensures len { length (turned_row kind elements buffer.now from) ≡ elements * external_size kind }
 {
-    gather_turned(kind, buffer, from, elements, i64::from(kind.size()), &mut out[to..]);
+    gather_turned(
+        kind,
+        buffer,
+        from,
+        elements,
+        i64::from(kind.size()),
+        &mut out[to..],
+    );
 }
 
 /// Puts what stands for rows of adjacent elements to the front of `out`; the first row lies at `start`, each next one `step` bytes
@@ -58,7 +65,11 @@ fn put_cut(kind: Kind, buffer: &[u8], from: i64, skip: usize, out: &mut [u8])
     ensures { out.new ≡ take (length out.old) (drop skip (turned kind buffer.now from)) }
 {
     let from = from as usize;
-    let image = image_of(Rep::External32, kind, &buffer[from..from + kind.size() as usize]);
+    let image = image_of(
+        Rep::External32,
+        kind,
+        &buffer[from..from + kind.size() as usize],
+    );
     out.copy_from_slice(&image.as_slice()[skip..skip + out.len()]);
 }
 
@@ -80,7 +91,14 @@ fn gather_leading(kind: Kind, elements: u64, buffer: &[u8], start: i64, out: &mu
 }
 
 /// Fills `out` with the bytes from number `skip` on, which is in the first element, of what stands for adjacent elements.
-pub(crate) fn gather_cut(kind: Kind, elements: u64, buffer: &[u8], start: i64, skip: usize, out: &mut [u8])
+pub(crate) fn gather_cut(
+    kind: Kind,
+    elements: u64,
+    buffer: &[u8],
+    start: i64,
+    skip: usize,
+    out: &mut [u8],
+)
     requires inside { IsPiece (length buffer.now) (elements * native_size kind) start }
     requires near { length buffer.now < 2 ^ 63 }
     requires first { skip < external_size kind }
@@ -91,7 +109,7 @@ pub(crate) fn gather_cut(kind: Kind, elements: u64, buffer: &[u8], start: i64, s
     let head = out.len().min(kind.ext_size() as usize - skip);
     put_cut(kind, buffer, start, skip, &mut out[..head]);
     if head < out.len() {
-        let next = start + i64::from(kind.size());
+        let next = place(start, 1, i64::from(kind.size()));
         gather_leading(kind, elements - 1, buffer, next, &mut out[head..]);
     }
 }

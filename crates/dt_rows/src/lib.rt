@@ -2,6 +2,7 @@
 #![tactic(auto)]
 
 mod external;
+mod from_buffer;
 mod into_buffer;
 mod piece;
 mod pieces;
@@ -10,5 +11,6 @@ mod store;
 mod stores;
 mod turned;
 
+pub use from_buffer::gather;
 pub use into_buffer::scatter;
 pub use rows::{Rows, Run};

@@ -1,0 +1,9 @@
+//! Pack sessions: the packed bytes of an operation (MPI 4.1, section 5.2), taken in pieces of any length.
+#![tactic(auto)]
+
+pub mod fault;
+pub mod session;
+
+pub use dt_cursor::Cursor;
+pub use fault::PackFault;
+pub use session::{PACKED_MAX, PackSession};
