@@ -1,11 +1,11 @@
 -- Rows of adjacent elements that are set in a buffer.
-use Rattle.std.proofs.Common.{◌≡◌, ℕ, zero, suc, ◌+◌, ◌*◌, ◌≤◌, ◌<◌, ℤ, pos, ◌+ℤ◌, ◌*ℤ◌, ◌≤ℤ◌, List, [], ◌∷◌, ◌++◌, map, take, drop, length, reverse, replicate, ◌-◌, refl, sym, ap, subst, ◌∙◌, arith, append_assoc, append-nil, length-append, length-drop}
+use Rattle.std.proofs.Common.{◌≡◌, ℕ, zero, suc, ◌+◌, ◌*◌, ◌≤◌, ◌<◌, ℤ, pos, ◌+ℤ◌, ◌*ℤ◌, List, [], ◌∷◌, ◌++◌, map, take, drop, length, reverse, replicate, ◌-◌, refl, sym, ap, subst, ◌∙◌, arith, append_assoc, append-nil, length-append, length-drop}
 use Rattle.std.specs.Prelude.{nat_abs}
 use Rattle.std.specs.List.{flat_map}
 use Rattle.std.proofs.lemmas.Grind.{flat_map-append}
 use Rattle.std.proofs.lemmas.Int.{ints}
 use Rattle.std.proofs.lemmas.List.Sums.{sum_by-cons}
-use Rattle.std.proofs.lemmas.List.{drop-drop, length-take-le, map-append, take-append-drop, take_at, drop_at}
+use Rattle.std.proofs.lemmas.List.{drop-drop, length-take-le, map-append, take-append-drop, take_all, take_at, drop_at}
 use Rattle.dt_kinds.specs.declared.kind.Kind.{Kind}
 use Rattle.dt_kinds.specs.declared.kind.Rep.{Rep}
 use Rattle.dt_kinds.specs.declared.kind.Rep.TheVariants.{Native, External32}
@@ -23,7 +23,7 @@ use Rattle.dt_rows.specs.Pieces.{IsPiece}
 use Rattle.dt_rows.specs.Rows.{element_at, adjacent, elements_of_rows}
 use Rattle.dt_rows.specs.Storing.{each_put, stored, set_rows}
 use Rattle.dt_rows.proofs.Joined.{take_further}
-use Rattle.dt_rows.proofs.Stored.{put_more, put_everywhere}
+use Rattle.dt_rows.proofs.Stored.{put_more, put_same, put_everywhere, stored_same}
 
 total-cons : (rep : Rep) (e : Entry) (es : List Entry) → total rep (e ∷ es) ≡ packed_size rep e.kind + total rep es
 total-cons rep e es = sum_by-cons (λ (f : Entry). packed_size rep f.kind) e es
@@ -46,6 +46,10 @@ total_of_kind rep kind [] = omega arith
 total_of_kind rep kind (x ∷ places) =
     let more : suc (length places) * packed_size rep kind ≡ packed_size rep kind + length places * packed_size rep kind = omega arith in
     total-cons rep (element_at kind x) (map (element_at kind) places) ∙ ap (λ n. packed_size rep kind + n) (total_of_kind rep kind places) ∙ sym more
+
+length-written : (buffer : List ℕ) (at : ℕ) (bytes : List ℕ) → at + length bytes ≤ length buffer → length (written buffer at bytes) ≡ length buffer
+length-written buffer at bytes fits =
+    omega (arith, length-append (take at buffer) (bytes ++ drop (at + length bytes) buffer), length-append bytes (drop (at + length bytes) buffer), length-take-le at buffer (omega arith), length-drop (at + length bytes) buffer)
 
 -- bytes that are written behind others
 written_further : (buffer : List ℕ) (at n : ℕ) (p q : List ℕ) → length p ≡ n → at + (length p + length q) ≤ length buffer → written (written buffer at p) (at + n) q ≡ written buffer at (p ++ q)
@@ -70,6 +74,9 @@ written_further buffer at n p q long room =
 drop_none : (xs : List ℕ) → drop 0 xs ≡ xs
 drop_none [] = refl
 drop_none (x ∷ xs) = refl
+
+pub rest_of : (xs : List ℕ) (n : ℕ) → take (length xs - n) (drop n xs) ≡ drop n xs
+rest_of xs n = take_all (length xs - n) (drop n xs) (omega (arith, length-drop n xs))
 
 two_pieces : (xs : List ℕ) (n s : ℕ) → take n xs ++ take s (drop n xs) ≡ take (n + s) xs
 two_pieces xs n s =
@@ -161,16 +168,34 @@ rows_are_set rep r origin start buffer images is = up_to r.rows
         ∙ sym (put_more (λ y b bytes. set_each rep (adjacent kind n y) b bytes) (n * packed_size rep kind) start r.step m buffer images)
         ∙ ap (λ k. set_rows rep kind n (row_offsets start k r.step) buffer images) next
 
--- an element that is as large in external32 as in memory stands there turned
-pub turned_is_restored : (kind : Kind) → native_size kind ≤ external_size kind → (bytes : List ℕ) → length bytes ≡ external_size kind → reverse bytes ≡ restore External32 kind bytes
+-- elements that are as large in external32 as in memory stand there turned
+turned_is_restored : (kind : Kind) → native_size kind ≤ external_size kind → (bytes : List ℕ) → length bytes ≡ external_size kind → reverse bytes ≡ restore External32 kind bytes
 turned_is_restored kind wide bytes long =
     let none : native_size kind - length bytes ≡ 0 = omega (arith, wide, long) in
     sym (ap (λ n. reverse bytes ++ replicate n (filler kind bytes)) none ∙ append-nil (reverse bytes))
 
-pub one_byte_is_restored : (kind : Kind) → native_size kind ≡ 1 → external_size kind ≡ 1 → (bytes : List ℕ) → length bytes ≡ 1 → bytes ≡ restore External32 kind bytes
-one_byte_is_restored kind wide ext [] long = cc
-one_byte_is_restored kind wide ext (b ∷ []) long = turned_is_restored kind (omega (arith, wide, ext)) (b ∷ []) (omega (arith, ext))
-one_byte_is_restored kind wide ext (b ∷ c ∷ bytes) long = absurd (omega (arith, long))
+one_turned : (bytes : List ℕ) → length bytes ≡ 1 → bytes ≡ reverse bytes
+one_turned [] long = cc
+one_turned (b ∷ []) long = refl
+one_turned (b ∷ c ∷ bytes) long = absurd (omega (arith, long))
+
+module _ (kind : Kind) (start step : ℤ) (count size : ℕ) (buffer images : List ℕ) (sizes : (native_size kind ≡ size) × (external_size kind ≡ size)) (enough : count * external_size kind ≤ length images) where
+  abbrev places : List ℤ
+  places = row_offsets start count step
+
+  all : length places * external_size kind ≤ length images
+  all = subst (λ n. n * external_size kind ≤ length images) (sym (count-row start step count)) enough
+
+  pub turned_elements : stored reverse size places buffer images ≡ stored (restore External32 kind) (external_size kind) places buffer images
+  turned_elements =
+      ap (λ w. stored reverse w places buffer images) (sym sizes.1)
+      ∙ stored_same reverse (restore External32 kind) (external_size kind) (turned_is_restored kind (omega (arith, sizes))) places buffer images all
+
+  pub single_bytes : size ≡ 1 → stored (λ bytes. bytes) size places buffer images ≡ stored (restore External32 kind) (external_size kind) places buffer images
+  single_bytes is =
+      ap (λ w. stored (λ bytes. bytes) w places buffer images) (sym sizes.1)
+      ∙ stored_same (λ bytes. bytes) reverse (external_size kind) (λ bytes long. one_turned bytes (long ∙ sizes.1 ∙ is)) places buffer images all
+      ∙ ap (λ w. stored reverse w places buffer images) sizes.1 ∙ turned_elements
 
 -- rows of single elements
 pub single_rows : (rep : Rep) (kind : Kind) (start step : ℤ) (count : ℕ) (buffer images : List ℕ)
@@ -181,3 +206,16 @@ single_rows rep kind start step count buffer images =
     let here : (x : ℤ) → x ≡ x +ℤ (pos 0 *ℤ pos (native_size kind)) = λ x. omega (arith, ints) in
     put_everywhere put (λ x b bytes. set_each rep (adjacent kind 1 x) b bytes) (packed_size rep kind) (λ x b bytes. ap (λ y. put y b bytes) (here x)) (row_offsets start count step) buffer images
     ∙ ap (λ w. each_put (λ x b bytes. set_each rep (adjacent kind 1 x) b bytes) w (row_offsets start count step) buffer images) (sym one)
+
+-- rows that are native, each written at once
+pub native_rows : (kind : Kind) (n : ℕ) (start step : ℤ) (count : ℕ) (buffer images : List ℕ)
+    → ((i : ℕ) → i < count → IsPiece (length buffer) (n * native_size kind) (start +ℤ (pos i *ℤ step))) → count * (n * native_size kind) ≤ length images
+    → stored (λ bytes. bytes) (n * native_size kind) (row_offsets start count step) buffer images ≡ set_rows Native kind n (row_offsets start count step) buffer images
+native_rows kind n start step count buffer images inside enough =
+    let w = n * native_size kind in
+    (put_same (λ x b bytes. written b (nat_abs x) (take w bytes)) (λ x b bytes. set_each Native (adjacent kind n x) b bytes) w (length buffer) start step images count
+    (λ i b bytes lt long have. (
+      (let piece = subst (λ len. IsPiece len w (start +ℤ (pos i *ℤ step))) (sym long) (inside i lt) in sym (adjacent_is_written kind n (start +ℤ (pos i *ℤ step)) b bytes piece have)),
+      (let within = (inside i lt).within in length-written b (nat_abs (start +ℤ (pos i *ℤ step))) (take w bytes) (omega (arith, within, long, length-take-le w bytes have)) ∙ long),
+    ))
+    buffer refl enough).0

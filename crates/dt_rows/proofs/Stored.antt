@@ -1,9 +1,9 @@
 -- What is put at one more place of a buffer.
-use Rattle.std.proofs.Common.{◌≡◌, ℕ, zero, suc, ◌+◌, ◌*◌, ◌≤◌, ◌<◌, ℤ, pos, ◌+ℤ◌, ◌*ℤ◌, List, [], ◌∷◌, ◌++◌, map, take, drop, length, refl, sym, ap, subst, ◌∙◌, arith, length-drop}
+use Rattle.std.proofs.Common.{◌≡◌, ℕ, zero, suc, ◌+◌, ◌*◌, ◌≤◌, ◌<◌, ℤ, pos, ◌+ℤ◌, ◌*ℤ◌, List, [], ◌∷◌, ◌++◌, take, drop, length, refl, sym, ap, subst, ◌∙◌, arith, length-drop}
 use Rattle.std.specs.Prelude.{nat_abs}
-use Rattle.std.proofs.lemmas.List.{drop-drop, length-take-le, map-append}
+use Rattle.std.proofs.lemmas.List.{drop-drop, length-take-le}
 use Rattle.dt_map.specs.Setting.{written}
-use Rattle.dt_offsets.specs.Offsets.{below, row_offsets}
+use Rattle.dt_offsets.specs.Offsets.{row_offsets}
 use Rattle.dt_offsets.proofs.Reaches.{count-row}
 use Rattle.dt_rows.specs.Storing.{each_put, stored}
 use Rattle.dt_rows.proofs.Gathering.{row_more}

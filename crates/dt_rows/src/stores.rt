@@ -39,6 +39,11 @@ pub(crate) fn scatter_stores<S: Store>(
     let width = store.packed();
     'places: for i in 0..count {
         let from = i as usize * width;
-        store_at(store, &packed[from..from + width], buffer, place(start, i, step));
+        store_at(
+            store,
+            &packed[from..from + width],
+            buffer,
+            place(start, i, step),
+        );
     }
 }
