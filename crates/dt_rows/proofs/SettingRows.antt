@@ -71,14 +71,14 @@ written_further buffer at n p q long room =
     ∙ ap (λ s. front ++ s) (sym (append_assoc p q (drop (at + length (p ++ q)) buffer)))
 
 -- the first bytes of a list, in two pieces
-drop_none : (xs : List ℕ) → drop 0 xs ≡ xs
+drop_none : {A : Type 0} (xs : List A) → drop 0 xs ≡ xs
 drop_none [] = refl
 drop_none (x ∷ xs) = refl
 
 pub rest_of : (xs : List ℕ) (n : ℕ) → take (length xs - n) (drop n xs) ≡ drop n xs
 rest_of xs n = take_all (length xs - n) (drop n xs) (omega (arith, length-drop n xs))
 
-two_pieces : (xs : List ℕ) (n s : ℕ) → take n xs ++ take s (drop n xs) ≡ take (n + s) xs
+pub two_pieces : {A : Type 0} (xs : List A) (n s : ℕ) → take n xs ++ take s (drop n xs) ≡ take (n + s) xs
 two_pieces xs n s =
     let here : 0 + n ≡ n = omega arith in
     ap (λ k. take n xs ++ take s (drop k xs)) (sym here) ∙ ap (λ ys. take n ys ++ take s (drop (0 + n) xs)) (sym (drop_none xs))
