@@ -34,7 +34,7 @@ use Rattle.dt_script.specs.Olds.{any_old}
 use Rattle.dt_machine.specs.Outcome.{CanChange, IsStop, changed, stop_by}
 use Rattle.dt_machine.specs.Refusal.{new_type_row, conditions, IsRefusedBy, IsAllowed, NoMoreTypes}
 use Rattle.dt_machine.specs.Row.{Row, IsFirst, IsClear}
-use Rattle.dt_machine.specs.State.{State, type_of, old_of, is_unknown, is_type_taken, with_type, with_count}
+use Rattle.dt_machine.specs.State.{State, type_of, old_of, is_unknown, with_type, with_count}
 use Rattle.dt_machine.specs.Step.{Performs}
 use Rattle.dt_machine.proofs.NamedTypes.{can_make, free_under, names_free}
 use Rattle.dt_machine.proofs.Rows.{refused, allowed, behind_three, first_front}

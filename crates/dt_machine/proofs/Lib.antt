@@ -1,9 +1,13 @@
 pub mod Definitions
 pub mod Fills
+pub mod LeastTrees
 pub mod Lines
 pub mod NamedTypes
 pub mod Once
 pub mod Operations
 pub mod Outcomes
+pub mod Rebuilding
 pub mod Rows
+pub mod Telling
 pub mod TypeWords
+pub mod Widths

@@ -1,23 +1,18 @@
 -- Refusals of commands on names of types: the first condition that holds.
-use Rattle.std.proofs.Common.{◌≡◌, Bool, ℕ, ◌<◌, ℤ, true, false, List, [], ◌∷◌, Option, Some, None, Result, Ok, Err, cond, IsTrue, inl, inr, refl, sym, ap, ◌∙◌, arith}
+use Rattle.std.proofs.Common.{◌≡◌, Bool, ℕ, ◌<◌, ℤ, true, false, List, [], ◌∷◌, Option, Some, None, IsTrue, inl, inr, refl, sym, ap, ◌∙◌}
 use Rattle.std.proofs.lemmas.Bool.{cases_lt, false_from_ne_true, or_parts}
-use Rattle.std.specs.Option.{is_none, is_some, option_map, option_map_or}
-use Rattle.std.specs.Result.{result_ok, is_ok}
-use Rattle.dt_kinds.specs.declared.kind.Kind.{Kind}
-use Rattle.dt_kinds.specs.declared.kind.KindFault.{KindFault}
+use Rattle.std.specs.Option.{is_none, is_some}
 use Rattle.dt_kinds.specs.Name.{kind_of, is_left_out}
 use Rattle.dt_reply.specs.declared.refusal.Refusal.{Refusal}
 use Rattle.dt_reply.specs.declared.refusal.Refusal.TheVariants as refusal
 use Rattle.dt_reply.specs.declared.reply.Reply.TheVariants.{Done}
 use Rattle.dt_script.specs.declared.command.Command.TheVariants.{Child, Commit, Free}
-use Rattle.dt_script.specs.Name.{begins_with_mpi, is_name, name_of}
-use Rattle.dt_type.specs.declared.datatype.Seen.{Seen, out-roll-Seen}
-use Rattle.dt_form.specs.declared.form.FormOf.TheVariants.{Named}
+use Rattle.dt_script.specs.Name.{begins_with_mpi}
+use Rattle.dt_type.specs.declared.datatype.Seen.{Seen}
 use Rattle.dt_type.specs.Basic.{is_basic}
-use Rattle.dt_form.specs.Form.{is_named, olds_of}
+use Rattle.dt_form.specs.Form.{olds_of}
 use Rattle.dt_form.specs.Contents.{old_at}
 use Rattle.dt_type.specs.Datatype.{form_of}
-use Rattle.dt_type.specs.Form.{result_of}
 use Rattle.dt_machine.specs.declared.outcome.Change.TheVariants as change
 use Rattle.dt_names.specs.declared.stop.Stop.{Stop}
 use Rattle.dt_names.specs.declared.stop.Stop.TheVariants.{Refused, NoMemory}

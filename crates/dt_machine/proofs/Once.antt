@@ -1,6 +1,8 @@
 -- A step is a function, and so are the answers to an input.
-use Rattle.std.proofs.Common.{◌≡◌, ℕ, ◌<◌, Bool, cond, List, [], ◌∷◌, Option, Some, inl, inr, refl, sym, ap, subst, ◌∙◌, arith}
+use Rattle.std.proofs.Common.{◌≡◌, ℕ, ◌<◌, ℤ, pos, false, cond, List, [], ◌∷◌, length, Option, Some, None, inl, inr, refl, sym, ap, subst, ◌∙◌, arith}
 use Rattle.std.proofs.lemmas.Bool.{cases_lt}
+use Rattle.std.specs.List.{AllByRecursion}
+use Rattle.std.specs.Option.{IsSomeAnd}
 use Rattle.dt_map.specs.Bounds.{bounds_of}
 use Rattle.dt_map.specs.Packed.{packed}
 use Rattle.dt_reply.specs.declared.refusal.Refusal.{Refusal}
@@ -9,22 +11,28 @@ use Rattle.dt_reply.specs.declared.reply.Reply.TheVariants.{Done, Packed, Shown,
 use Rattle.dt_reply.specs.Refusal.{number_of}
 use Rattle.dt_reply.proofs.Numbers.{one_refusal}
 use Rattle.dt_script.specs.declared.command.Command.{Command}
-use Rattle.dt_script.specs.declared.command.Command.TheVariants.{Define, Child, Commit, Free, Info, Map, Envelope, Contents, Buffer, Show, Bytes}
-use Rattle.dt_script.specs.Line.{Meaning, Blank, Fault, Does}
+use Rattle.dt_script.specs.declared.command.Command.TheVariants.{Define, Child, Commit, Free, Info, Map, Envelope, Contents, Buffer, Show, Bytes, Weights, Normalise, Rebuild}
+use Rattle.dt_script.specs.Line.{Meaning, Blank, Fault, Does, IsLine}
 use Rattle.dt_script.specs.Lines.{script_lines}
 use Rattle.dt_script.specs.Name.{begins_with_mpi}
 use Rattle.dt_script.proofs.LineLemmas.{one_meaning}
 use Rattle.dt_type.specs.Basic.{is_basic}
 use Rattle.dt_form.specs.Contents.{old_at, envelope_of, contents_of}
-use Rattle.dt_type.specs.Datatype.{typemap_of, form_of}
+use Rattle.dt_type.specs.Datatype.{typemap_of, entries_of, marks_of, form_of}
 use Rattle.dt_form.specs.Form.{olds_of}
 use Rattle.dt_type.specs.Form.{result_of}
 use Rattle.dt_names.specs.declared.kept.Kept.{Kept}
-use Rattle.dt_machine.specs.Answers.{Run, Answers, text_of_all, are_accepted}
+use Rattle.dt_rebuild.specs.Built.{built}
+use Rattle.dt_tree.specs.Tree.{Tree}
+use Rattle.dt_machine.specs.Answers.{Run, text_of_all, are_accepted}
+use Rattle.dt_machine.specs.Choice.{cost_told, tells}
+use Rattle.dt_machine.specs.Laws.{sought, Chooses, StepIsFunction, AnswersAreOne}
 use Rattle.dt_machine.specs.Made.{form_in, is_committed_by}
 use Rattle.dt_machine.specs.Refusal.{elements_of, IsRefusedBy}
-use Rattle.dt_machine.specs.State.{State, first_state, type_of, buffer_of, with_type, with_committed, with_count}
-use Rattle.dt_machine.specs.Step.{Performs, Obeys, Meets, Step}
+use Rattle.dt_machine.specs.State.{State, first_state, type_of, buffer_of, with_type, with_committed, with_cost, with_count}
+use Rattle.dt_machine.specs.Step.{Performs, Obeys, Meets}
+use Rattle.dt_machine.proofs.Rows.{some_and}
+use Rattle.dt_machine.proofs.Telling.{no_choice}
 
 -- one reply and one state
 abbrev IsOne : Reply → Reply → State → State → Type 0
@@ -38,34 +46,70 @@ by_one found to of reply other t u (x, a, b, c) (y, d, e, f) =
     let same : x ≡ y = cc in
     (b ∙ ap to same ∙ sym e, c ∙ ap of same ∙ sym f)
 
-performs_one : (command : Command) (s t u : State) (reply other : Reply) → Performs command s reply t → Performs command s other u → IsOne reply other t u
-performs_one (Define name ctor) s t u reply other p q =
+abbrev HasEntries : Kept → Type 0
+HasEntries kept = 0 < length (entries_of kept.ty)
+
+-- a command that may choose a tree
+abbrev ChoosesBy : State → Command → Type 0
+ChoosesBy s command = IsSomeAnd (sought command) (λ ty. IsSomeAnd (type_of s ty) HasEntries)
+
+told_nothing : (s : State) (base : ℤ) (tree : Option Tree) → (base ≡ pos 0) × (tree ≡ None) → tells s.weights base tree ≡ tells s.weights (pos 0) None
+told_nothing s base tree (a, b) = rw (a, b) refl
+
+cost_nothing : (s : State) (base : ℤ) (tree : Option Tree) → (base ≡ pos 0) × (tree ≡ None) → with_count (with_cost s (cost_told s.weights tree)) ≡ with_count (with_cost s 0)
+cost_nothing s base tree (a, b) = rw b refl
+
+abbrev with_built : State → List ℕ → ℤ → Option Tree → Kept → State
+with_built s name base tree kept = with_count (with_type s name (record { ty = built base tree (marks_of kept.ty); committed = false }))
+
+built_nothing : (s : State) (name : List ℕ) (kept : Kept) (base : ℤ) (tree : Option Tree) → (base ≡ pos 0) × (tree ≡ None)
+    → with_built s name base tree kept ≡ with_built s name (pos 0) None kept
+built_nothing s name kept base tree (a, b) = rw (a, b) refl
+
+performs_one : (command : Command) (s t u : State) (reply other : Reply) → (¬ ChoosesBy s command) → Performs command s reply t → Performs command s other u
+    → IsOne reply other t u
+performs_one (Define name ctor) s t u reply other none p q =
     by_one (form_in s ctor) (λ _. Done) (λ form. with_count (with_type s name (record { ty = result_of form; committed = is_committed_by s ctor }))) reply other t u p q
-performs_one (Child name ty k) s t u reply other (kept, old, a, b, c, d) (kept2, old2, e, f, g, h) =
+performs_one (Child name ty k) s t u reply other none (kept, old, a, b, c, d) (kept2, old2, e, f, g, h) =
     let both : Some kept ≡ Some kept2 = sym a ∙ e in
     let same : kept ≡ kept2 = cc in
     let olds : Some old ≡ Some old2 = sym b ∙ (ap (λ (x : Kept). old_at (olds_of (form_of x.ty)) k) same ∙ f) in
     let one : old ≡ old2 = cc in
     (c ∙ sym g, d ∙ (ap (λ o. with_count (with_type s name (record { ty = o; committed = is_basic o }))) one ∙ sym h))
-performs_one (Commit ty) s t u reply other p q =
+performs_one (Commit ty) s t u reply other none p q =
     by_one (type_of s ty) (λ _. Done) (λ kept. with_count (cond (begins_with_mpi ty) s (with_committed s ty kept))) reply other t u p q
-performs_one (Free ty) s t u reply other p q = (p.0 ∙ sym q.0, p.1 ∙ sym q.1)
-performs_one (Info ty) s t u reply other p q =
+performs_one (Free ty) s t u reply other none p q = (p.0 ∙ sym q.0, p.1 ∙ sym q.1)
+performs_one (Info ty) s t u reply other none p q =
     by_one (type_of s ty) (λ kept. Told (bounds_of (typemap_of kept.ty)) kept.committed) (λ _. with_count s) reply other t u p q
-performs_one (Map ty) s t u reply other p q = by_one (type_of s ty) (λ kept. Listed (typemap_of kept.ty)) (λ _. with_count s) reply other t u p q
-performs_one (Envelope ty) s t u reply other p q =
+performs_one (Map ty) s t u reply other none p q = by_one (type_of s ty) (λ kept. Listed (typemap_of kept.ty)) (λ _. with_count s) reply other t u p q
+performs_one (Envelope ty) s t u reply other none p q =
     by_one (type_of s ty) (λ kept. Described (envelope_of (form_of kept.ty))) (λ _. with_count s) reply other t u p q
-performs_one (Contents ty) s t u reply other p q =
+performs_one (Contents ty) s t u reply other none p q =
     by_one (type_of s ty) (λ kept. Contained (contents_of (form_of kept.ty))) (λ _. with_count s) reply other t u p q
-performs_one (Buffer name fill) s t u reply other p q = (p.0 ∙ sym q.0, p.1 ∙ sym q.1)
-performs_one (Show buffer) s t u reply other p q = by_one (buffer_of s buffer) Shown (λ _. with_count s) reply other t u p q
-performs_one (Bytes rep count ty buffer origin) s t u reply other (kept, held, a, b, c, d) (kept2, held2, e, f, g, h) =
+performs_one (Buffer name fill) s t u reply other none p q = (p.0 ∙ sym q.0, p.1 ∙ sym q.1)
+performs_one (Show buffer) s t u reply other none p q = by_one (buffer_of s buffer) Shown (λ _. with_count s) reply other t u p q
+performs_one (Bytes rep count ty buffer origin) s t u reply other none (kept, held, a, b, c, d) (kept2, held2, e, f, g, h) =
     let both : Some kept ≡ Some kept2 = sym a ∙ e in
     let same : kept ≡ kept2 = cc in
     let buffers : Some held ≡ Some held2 = sym b ∙ f in
     let one : held ≡ held2 = cc in
     let text = ap (λ (x : Kept). Packed (packed rep (elements_of x count origin) held)) same ∙ ap (λ (x : List ℕ). Packed (packed rep (elements_of kept2 count origin) x)) one in
     (c ∙ (text ∙ sym g), d ∙ sym h)
+performs_one (Weights leaf vector index place group part) s t u reply other none p q = (p.0 ∙ sym q.0, p.1 ∙ sym q.1)
+performs_one (Normalise ty) s t u reply other none (kept, base, tree, a, b, c, d) (kept2, base2, tree2, e, f, g, h) =
+    let few = no_choice s.weights (entries_of kept.ty) base tree (λ some. none (some_and (type_of s ty) HasEntries kept a some)) b in
+    let also = no_choice s.weights (entries_of kept2.ty) base2 tree2 (λ some. none (some_and (type_of s ty) HasEntries kept2 e some)) f in (
+      c ∙ (told_nothing s base tree few ∙ (sym (told_nothing s base2 tree2 also) ∙ sym g)),
+      d ∙ (cost_nothing s base tree few ∙ (sym (cost_nothing s base2 tree2 also) ∙ sym h)),
+    )
+performs_one (Rebuild name ty) s t u reply other none (kept, base, tree, a, b, c, d) (kept2, base2, tree2, e, f, g, h) =
+    let both : Some kept ≡ Some kept2 = sym a ∙ e in
+    let same : kept ≡ kept2 = cc in
+    let few = no_choice s.weights (entries_of kept.ty) base tree (λ some. none (some_and (type_of s ty) HasEntries kept a some)) b in
+    let also = no_choice s.weights (entries_of kept2.ty) base2 tree2 (λ some. none (some_and (type_of s ty) HasEntries kept2 e some)) f in (
+      c ∙ (told_nothing s base tree few ∙ (sym (told_nothing s base2 tree2 also) ∙ sym g)),
+      d ∙ (built_nothing s name kept base tree few ∙ (ap (with_built s name (pos 0) None) same ∙ (sym (built_nothing s name kept2 base2 tree2 also) ∙ sym h))),
+    )
 
 -- the least number is one
 least_one : (s : State) (command : Command) (a b : Refusal) → IsRefusedBy s command a → IsRefusedBy s command b → a ≡ b
@@ -75,35 +119,37 @@ least_one s command a b p q =
       | inr le ↦ elim (cases_lt (number_of b) (number_of a)) [ inl lt ↦ absurd (p.1 b lt q.0) | inr ge ↦ omega arith ]
     ])
 
-obeys_one : (command : Command) (s t u : State) (reply other : Reply) → Obeys command s reply t → Obeys command s other u → IsOne reply other t u
-obeys_one command s t u reply other (inl (a, is, said, stays)) (inl (b, also, answered, stood)) =
+obeys_one : (command : Command) (s t u : State) (reply other : Reply) → (¬ ChoosesBy s command) → Obeys command s reply t → Obeys command s other u → IsOne reply other t u
+obeys_one command s t u reply other none (inl (a, is, said, stays)) (inl (b, also, answered, stood)) =
     (said ∙ (ap Refused (least_one s command a b is also) ∙ sym answered), stays ∙ sym stood)
-obeys_one command s t u reply other (inl (a, is, said, stays)) (inr q) = absurd (q.0 a is.0)
-obeys_one command s t u reply other (inr p) (inl (b, also, answered, stood)) = absurd (p.0 b also.0)
-obeys_one command s t u reply other (inr p) (inr q) = performs_one command s t u reply other p.1 q.1
+obeys_one command s t u reply other none (inl (a, is, said, stays)) (inr q) = absurd (q.0 a is.0)
+obeys_one command s t u reply other none (inr p) (inl (b, also, answered, stood)) = absurd (p.0 b also.0)
+obeys_one command s t u reply other none (inr p) (inr q) = performs_one command s t u reply other none p.1 q.1
 
-meets_one : (meaning : Meaning) (s t u : State) (reply other : Reply) → Meets meaning s reply t → Meets meaning s other u → IsOne reply other t u
-meets_one Blank s t u reply other p q = (p.0 ∙ sym q.0, p.1 ∙ sym q.1)
-meets_one Fault s t u reply other p q = (p.0 ∙ sym q.0, p.1 ∙ sym q.1)
-meets_one (Does command) s t u reply other p q = obeys_one command s t u reply other p q
+meets_one : (meaning : Meaning) (s t u : State) (reply other : Reply) → ((command : Command) → meaning ≡ Does command → ¬ ChoosesBy s command)
+    → Meets meaning s reply t → Meets meaning s other u → IsOne reply other t u
+meets_one Blank s t u reply other none p q = (p.0 ∙ sym q.0, p.1 ∙ sym q.1)
+meets_one Fault s t u reply other none p q = (p.0 ∙ sym q.0, p.1 ∙ sym q.1)
+meets_one (Does command) s t u reply other none p q = obeys_one command s t u reply other (none command refl) p q
 
-pub step_is_function : (s t u : State) (line : List ℕ) (reply other : Reply) → Step s line reply t → Step s line other u → IsOne reply other t u
-step_is_function s t u line reply other (m, means, meets) (n, also, met) =
-    meets_one m s t u reply other meets (subst (λ n. Meets n s other u) (one_meaning line n m also means) met)
+pub step_is_function : StepIsFunction
+step_is_function s t u line reply other none (m, means, meets) (n, also, met) =
+    meets_one m s t u reply other (λ command is chooses. none (command, subst (IsLine line) is means, chooses)) meets
+    (subst (λ n. Meets n s other u) (one_meaning line n m also means) met)
 
-run_one : (s t u : State) (lines : List (List ℕ)) (replies others : List Reply) → Run s lines replies t → Run s lines others u → replies ≡ others
-run_one s t u [] [] [] p q = refl
-run_one s t u [] [] (o ∷ others) p q = absurd q
-run_one s t u [] (r ∷ replies) others p q = absurd p
-run_one s t u (line ∷ lines) [] others p q = absurd p
-run_one s t u (line ∷ lines) (r ∷ replies) [] p q = absurd q
-run_one s t u (line ∷ lines) (r ∷ replies) (o ∷ others) (mid, step, run) (mid2, step2, run2) =
-    let one = step_is_function s mid mid2 line r o step step2 in
-    let rest : replies ≡ others = run_one mid t u lines replies others run (subst (λ x. Run x lines others u) (sym one.1) run2) in
+run_one : (s t u : State) (lines : List (List ℕ)) (replies others : List Reply) → AllByRecursion (λ line. (s : State) → ¬ Chooses s line) lines
+    → Run s lines replies t → Run s lines others u → replies ≡ others
+run_one s t u [] [] [] none p q = refl
+run_one s t u [] [] (o ∷ others) none p q = absurd q
+run_one s t u [] (r ∷ replies) others none p q = absurd p
+run_one s t u (line ∷ lines) [] others none p q = absurd p
+run_one s t u (line ∷ lines) (r ∷ replies) [] none p q = absurd q
+run_one s t u (line ∷ lines) (r ∷ replies) (o ∷ others) none (mid, step, run) (mid2, step2, run2) =
+    let one = step_is_function s mid mid2 line r o (none.0 s) step step2 in
+    let rest : replies ≡ others = run_one mid t u lines replies others none.1 run (subst (λ x. Run x lines others u) (sym one.1) run2) in
     ap (λ x. x ∷ replies) one.0 ∙ ap (λ xs. o ∷ xs) rest
 
-pub answers_are_one : (input text other : List ℕ) (accepted also : Bool) → Answers input text accepted → Answers input other also
-    → (text ≡ other) × (accepted ≡ also)
-answers_are_one input text other accepted also p q =
-    let one = run_one first_state p.last q.last (script_lines input) p.replies q.replies p.run q.run in
+pub answers_are_one : AnswersAreOne
+answers_are_one input text other accepted also none p q =
+    let one = run_one first_state p.last q.last (script_lines input) p.replies q.replies none p.run q.run in
     (p.written ∙ (ap text_of_all one ∙ sym q.written), p.told ∙ (ap are_accepted one ∙ sym q.told))

@@ -1,5 +1,5 @@
 -- Refusals of commands that ask: the first condition that holds.
-use Rattle.std.proofs.Common.{◌≡◌, ℕ, ◌≤◌, ◌<◌, ℤ, true, false, ◌||◌, List, [], ◌∷◌, length, Option, Some, None, IsTrue, ap, ◌∙◌, arith}
+use Rattle.std.proofs.Common.{◌≡◌, ℕ, ◌≤◌, ◌<◌, ℤ, true, false, ◌||◌, List, [], ◌∷◌, length, Some, None, IsTrue, ap, ◌∙◌, arith}
 use Rattle.std.proofs.lemmas.Bool.{or_from, or_left, or_right}
 use Rattle.std.specs.Prelude.{IsFalse}
 use Rattle.std.specs.Option.{is_none, option_map_or, IsSomeAnd}

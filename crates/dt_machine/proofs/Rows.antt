@@ -1,11 +1,11 @@
 -- The first condition of a rising row that holds has the least number whose condition holds.
-use Rattle.std.proofs.Common.{◌≡◌, ℕ, ◌<◌, ◌≤◌, ◌==◌, Bool, true, false, cond, nat_lt, ◌&&◌, List, [], ◌∷◌, ◌++◌, Option, Some, refl, sym, ap, subst, ◌∙◌, ◌↔◌, eqb-true, arith}
+use Rattle.std.proofs.Common.{◌≡◌, ℕ, ◌<◌, ◌==◌, Bool, true, false, cond, nat_lt, [], ◌∷◌, ◌++◌, Option, Some, refl, sym, subst, ◌∙◌, ◌↔◌, eqb-true, arith}
 use Rattle.std.proofs.lemmas.Bool.{and_parts, eq-eqb, ltb-true}
 use Rattle.std.specs.Option.{IsSomeAnd}
 use Rattle.dt_reply.specs.declared.refusal.Refusal.{Refusal}
 use Rattle.dt_reply.specs.Refusal.{number_of}
 use Rattle.dt_script.specs.declared.command.Command.{Command}
-use Rattle.dt_script.specs.declared.command.Command.TheVariants.{Define, Child, Commit, Free, Info, Map, Envelope, Contents, Buffer, Show, Bytes}
+use Rattle.dt_script.specs.declared.command.Command.TheVariants.{Define, Child, Commit, Free, Info, Map, Envelope, Contents, Buffer, Show, Bytes, Weights, Normalise, Rebuild}
 use Rattle.dt_machine.specs.Refusal.{conditions, IsRefusedBy, IsAllowed}
 use Rattle.dt_machine.specs.Row.{Row, condition, IsFirst, IsClear, is_rising}
 use Rattle.dt_machine.specs.State.{State}
@@ -23,6 +23,9 @@ rises s (Contents ty) = refl
 rises s (Buffer name fill) = refl
 rises s (Show buffer) = refl
 rises s (Bytes rep count ty buffer origin) = refl
+rises s (Weights leaf vector index place group part) = refl
+rises s (Normalise ty) = refl
+rises s (Rebuild name ty) = refl
 
 -- the condition of a refusal whose number is that of the front, or another
 by_number : (P : Bool → Type 0) (m n : ℕ) → (m ≡ n → P true) → ((m == n) ≡ false → P false) → P (m == n)

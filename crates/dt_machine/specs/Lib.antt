@@ -1,4 +1,6 @@
 pub mod Answers
+pub mod Best
+pub mod Choice
 pub mod Laws
 pub mod Made
 pub mod Operation

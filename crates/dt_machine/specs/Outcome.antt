@@ -1,7 +1,5 @@
 -- What a command comes to before anything changes. No public clause cites this module.
 use Rattle.std.specs.Prelude.{◌≡◌, true, false, IsTrue, List, ℕ, ◌<◌, Option, Some, None, IsSome, Result, MatchResult}
-use Rattle.dt_kinds.specs.Name.{is_left_out}
-use Rattle.dt_reply.specs.declared.refusal.Refusal.{Refusal}
 use Rattle.dt_reply.specs.declared.refusal.Refusal.TheVariants as refusal
 use Rattle.dt_reply.specs.Reply.{is_accepted}
 use Rattle.dt_script.specs.declared.command.Command.{Command}
@@ -9,13 +7,13 @@ use Rattle.dt_type.specs.Basic.{is_basic}
 use Rattle.dt_type.specs.declared.fault.CtorFault.{CtorFault}
 use Rattle.dt_type.specs.declared.fault.CtorFault.TheVariants as fault
 use Rattle.dt_machine.specs.declared.outcome.Change.{Change}
-use Rattle.dt_machine.specs.declared.outcome.Change.TheVariants.{Nothing, AddType, Commit, Free, AddBuffer}
+use Rattle.dt_machine.specs.declared.outcome.Change.TheVariants.{Nothing, AddType, Commit, Free, AddBuffer, SetWeights, AddCost}
 use Rattle.dt_machine.specs.declared.outcome.Outcome.{Outcome}
 use Rattle.dt_names.specs.declared.stop.Stop.{Stop}
 use Rattle.dt_names.specs.declared.stop.Stop.TheVariants.{Refused, NoMemory}
 use Rattle.dt_names.specs.declared.kept.Kept.{Kept}
 use Rattle.dt_machine.specs.Refusal.{IsRefusedBy, IsAllowed}
-use Rattle.dt_machine.specs.State.{State, is_unknown, with_type, with_committed, without_type, with_buffer, with_count}
+use Rattle.dt_machine.specs.State.{State, with_type, with_committed, without_type, with_buffer, with_weights, with_cost, with_count}
 use Rattle.dt_names.specs.Names.{under}
 use Rattle.dt_machine.specs.Step.{Performs}
 
@@ -31,6 +29,8 @@ changed (AddType name kept) s = with_type s name kept
 changed (Commit name) s = with_commit s name (under name s.types)
 changed (Free name) s = without_type s name
 changed (AddBuffer name bytes) s = with_buffer s name bytes
+changed (SetWeights w) s = with_weights s w
+changed (AddCost cost) s = with_cost s cost
 
 -- what a change asks of the state: a new name, of which more may be made, and a basic type committed; a name that stands, of no basic type
 abbrev pub CanChange : Change → State → Type 0
@@ -40,6 +40,8 @@ CanChange (AddType name kept) s =
 CanChange (Commit name) s = IsSome (under name s.types)
 CanChange (Free name) s = (kept : Kept) → under name s.types ≡ Some kept → is_basic kept.ty ≡ false
 CanChange (AddBuffer name bytes) s = Unit {0}
+CanChange (SetWeights w) s = Unit {0}
+CanChange (AddCost cost) s = Unit {0}
 
 -- a command that is allowed: its reply, and the change that it makes
 pub record IsOutcome (s : State) (command : Command) (o : Outcome) : Type 0 where

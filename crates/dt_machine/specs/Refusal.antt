@@ -9,7 +9,7 @@ use Rattle.dt_reply.specs.declared.refusal.Refusal.{Refusal}
 use Rattle.dt_reply.specs.declared.refusal.Refusal.TheVariants.{UnknownName, NameTaken, UnsupportedKind, BasicType, NamedType, NoSuchChild, BadArgument, Overflow, TooDeep, TooHeavy, TooManyNames, TooManyEntries, Outside, TooLarge}
 use Rattle.dt_reply.specs.Refusal.{number_of}
 use Rattle.dt_script.specs.declared.command.Command.{Command}
-use Rattle.dt_script.specs.declared.command.Command.TheVariants.{Define, Child, Commit, Free, Info, Map, Envelope, Contents, Buffer, Show, Bytes}
+use Rattle.dt_script.specs.declared.command.Command.TheVariants.{Define, Child, Commit, Free, Info, Map, Envelope, Contents, Buffer, Show, Bytes, Weights, Normalise, Rebuild}
 use Rattle.dt_script.specs.declared.command.Fill.{Fill}
 use Rattle.dt_script.specs.declared.command.Fill.TheVariants.{Zero, Count, Hex}
 use Rattle.dt_script.specs.Olds.{any_old}
@@ -19,7 +19,8 @@ use Rattle.dt_form.specs.Contents.{old_at}
 use Rattle.dt_type.specs.Datatype.{typemap_of, entries_of, form_of}
 use Rattle.dt_form.specs.Form.{olds_of}
 use Rattle.dt_names.specs.declared.kept.Kept.{Kept}
-use Rattle.dt_machine.specs.declared.limits.TheConstants.{MOST_TYPES, MOST_MADE, MOST_BUFFERS, LARGEST_BUFFER, MOST_BYTES, MOST_ENTRIES, MOST_PACKED}
+use Rattle.dt_machine.specs.declared.limits.TheConstants.{MOST_TYPES, MOST_MADE, MOST_BUFFERS, LARGEST_BUFFER, MOST_BYTES, MOST_ENTRIES, MOST_SOUGHT, MOST_PACKED}
+use Rattle.dt_machine.specs.Choice.{AreWeights, AreTooWide}
 use Rattle.dt_machine.specs.Made.{IsFaultIn}
 use Rattle.dt_machine.specs.Row.{Row, ◌when◌, condition}
 use Rattle.dt_machine.specs.State.{State, type_of, buffer_of, is_unknown, is_basic_word, is_type_taken, is_buffer_taken, bytes_held}
@@ -100,6 +101,16 @@ conditions s (Bytes rep count ty buffer origin) =
     ∷ Outside when IsOutside s ty buffer count origin
     ∷ TooLarge when IsSomeAnd (type_of s ty) (λ kept. MOST_PACKED < total rep (elements_of kept count origin))
     ∷ []
+conditions s (Weights leaf vector index place group part) = BadArgument when (¬ AreWeights leaf vector index place group part) ∷ []
+conditions s (Normalise ty) =
+    type_row s ty (TooManyEntries when IsSomeAnd (type_of s ty) (λ kept. MOST_SOUGHT < length (entries_of kept.ty)) ∷ [])
+conditions s (Rebuild name ty) =
+    new_type_row s name (is_unknown s ty) (is_left_out ty) (
+    Overflow when IsSomeAnd (type_of s ty) (λ kept. AreTooWide (entries_of kept.ty))
+    ∷ TooManyNames when NoMoreTypes s
+    ∷ TooManyEntries when IsSomeAnd (type_of s ty) (λ kept. MOST_SOUGHT < length (entries_of kept.ty))
+    ∷ []
+    )
 
 -- the condition of a refusal holds of a command
 abbrev pub Holds : State → Command → Refusal → Type 0

@@ -8,14 +8,16 @@ use Rattle.std.specs.Ordering.{nat_cmp}
 use Rattle.dt_type.specs.declared.datatype.Seen.{Seen}
 use Rattle.dt_names.specs.declared.kept.Kept.{Kept}
 use Rattle.dt_names.specs.Names.{under, type_in, is_basic_in, is_unknown_in, is_taken_in, bytes_in}
+use Rattle.dt_tree.specs.Weights.{Weights, default_weights}
 use Rattle.dt_machine.specs.declared.state.Totals.{Totals}
 
 -- the types with their flags and the buffers that stand, by name and in the order of the names; how many types were made, freed
--- ones too; and what was counted
+-- ones too; what the parts of trees cost; and what was counted
 pub record State : Type 0 where
   pub types : List (List ℕ × Kept)
   pub made : ℕ
   pub buffers : List (List ℕ × List ℕ)
+  pub weights : Weights
   pub totals : Totals
 
 -- before the first line
@@ -23,7 +25,7 @@ abbrev pub no_totals : Totals
 no_totals = record { commands = 0; taken = 0; given = 0; elements = 0; cost = 0 }
 
 abbrev pub first_state : State
-first_state = record { types = []; made = 0; buffers = []; totals = no_totals }
+first_state = record { types = []; made = 0; buffers = []; weights = default_weights; totals = no_totals }
 
 -- what a type word stands for: a basic type where it begins as the names of MPI do, else the type of that name
 abbrev pub type_of : State → List ℕ → Option Kept
@@ -69,6 +71,13 @@ without_type s name = record s { types = remove_entry (is_at (slice_cmp nat_cmp 
 
 abbrev pub with_buffer : State → List ℕ → List ℕ → State
 with_buffer s name bytes = record s { buffers = insert_entry (slice_cmp nat_cmp) s.buffers name bytes }
+
+abbrev pub with_weights : State → Weights → State
+with_weights s w = record s { weights = w }
+
+-- the cost of one more tree was told
+abbrev pub with_cost : State → ℕ → State
+with_cost s cost = record s { totals = record s.totals { cost = min (s.totals.cost + cost) (2 ^ 64 - 1) } }
 
 -- one more command was accepted
 abbrev pub with_count : State → State

@@ -1,5 +1,5 @@
 -- What a line does to the state, and what is replied.
-use Rattle.std.specs.Prelude.{◌≡◌, ℕ, if◌then◌else◌, List, Some, ◌⊎◌}
+use Rattle.std.specs.Prelude.{◌≡◌, ℕ, ℤ, false, if◌then◌else◌, List, Option, Some, ◌⊎◌}
 use Rattle.dt_map.specs.Bounds.{bounds_of}
 use Rattle.dt_map.specs.Packed.{packed}
 use Rattle.dt_reply.specs.declared.refusal.Refusal.{Refusal}
@@ -7,20 +7,23 @@ use Rattle.dt_reply.specs.declared.refusal.Refusal.TheVariants.{Syntax}
 use Rattle.dt_reply.specs.declared.reply.Reply.{Reply}
 use Rattle.dt_reply.specs.declared.reply.Reply.TheVariants.{Silent, Done, Packed, Shown, Told, Listed, Described, Contained, Refused}
 use Rattle.dt_script.specs.declared.command.Command.{Command}
-use Rattle.dt_script.specs.declared.command.Command.TheVariants.{Define, Child, Commit, Free, Info, Map, Envelope, Contents, Buffer, Show, Bytes}
+use Rattle.dt_script.specs.declared.command.Command.TheVariants.{Define, Child, Commit, Free, Info, Map, Envelope, Contents, Buffer, Show, Bytes, Weights, Normalise, Rebuild}
 use Rattle.dt_script.specs.Name.{begins_with_mpi}
 use Rattle.dt_script.specs.Line.{Meaning, Blank, Fault, Does, IsLine}
 use Rattle.dt_type.specs.declared.datatype.Seen.{Seen}
 use Rattle.dt_form.specs.declared.form.FormOf.{FormOf}
 use Rattle.dt_type.specs.Basic.{is_basic}
 use Rattle.dt_form.specs.Contents.{old_at, envelope_of, contents_of}
-use Rattle.dt_type.specs.Datatype.{typemap_of, form_of}
+use Rattle.dt_type.specs.Datatype.{typemap_of, entries_of, marks_of, form_of}
 use Rattle.dt_form.specs.Form.{olds_of}
 use Rattle.dt_type.specs.Form.{result_of}
+use Rattle.dt_rebuild.specs.Built.{built}
+use Rattle.dt_tree.specs.Tree.{Tree}
 use Rattle.dt_names.specs.declared.kept.Kept.{Kept}
+use Rattle.dt_machine.specs.Choice.{weights_by, MayBeTold, cost_told, tells}
 use Rattle.dt_machine.specs.Made.{form_in, is_committed_by}
 use Rattle.dt_machine.specs.Refusal.{elements_of, IsRefusedBy, IsAllowed}
-use Rattle.dt_machine.specs.State.{State, type_of, buffer_of, with_type, with_committed, without_type, with_buffer, with_count}
+use Rattle.dt_machine.specs.State.{State, type_of, buffer_of, with_type, with_committed, without_type, with_buffer, with_weights, with_cost, with_count}
 use Rattle.dt_names.specs.Names.{bytes_of}
 
 -- what a command replies and changes that is not refused
@@ -56,6 +59,18 @@ Performs (Show buffer) s reply t = (bytes : List ℕ) × (buffer_of s buffer ≡
 Performs (Bytes rep count ty buffer origin) s reply t =
     (kept : Kept) × (bytes : List ℕ) × (type_of s ty ≡ Some kept) × (buffer_of s buffer ≡ Some bytes)
     × (reply ≡ Packed (packed rep (elements_of kept count origin) bytes)) × (t ≡ with_count s)
+-- trees are weighed so from now on
+Performs (Weights leaf vector index place group part) s reply t =
+    (reply ≡ Done) × (t ≡ with_count (with_weights s (weights_by leaf vector index place group part)))
+-- some tree that may be told of the type's entries is told, and its cost is added up
+Performs (Normalise ty) s reply t =
+    (kept : Kept) × (base : ℤ) × (tree : Option Tree) × (type_of s ty ≡ Some kept) × MayBeTold s.weights (entries_of kept.ty) base tree
+    × (reply ≡ tells s.weights base tree) × (t ≡ with_count (with_cost s (cost_told s.weights tree)))
+-- such a tree is told, and the new name stands for the type that is built from it, with the marks of the type; it isn't committed
+Performs (Rebuild name ty) s reply t =
+    (kept : Kept) × (base : ℤ) × (tree : Option Tree) × (type_of s ty ≡ Some kept) × MayBeTold s.weights (entries_of kept.ty) base tree
+    × (reply ≡ tells s.weights base tree)
+    × (t ≡ with_count (with_type s name (record { ty = built base tree (marks_of kept.ty); committed = false })))
 
 -- a command is refused and changes nothing, or it is performed
 abbrev pub Obeys : Command → State → Reply → State → Type 0

@@ -1,5 +1,5 @@
 //! What holds of the definitions themselves.
-ghost use Rattle.dt_machine.specs.Laws.{FirstIsLeast, AllowedIsClear, StepIsFunction, AnswersAreOne};
+ghost use Rattle.dt_machine.specs.Laws.{FirstIsLeast, AllowedIsClear, StepIsFunction, AnswersAreOne, ToldIsLeast, NormaliseTellsOneCost, RebuiltPlacesTheSame, RebuiltIsTaken};
 
 /// The refusal of the least number whose condition holds is the first of the command's row whose condition holds.
 pub fn first_is_least()
@@ -11,12 +11,32 @@ pub fn allowed_is_clear()
     ensures { AllowedIsClear }
 {}
 
-/// A line has one reply and leads to one state.
+/// A line has one reply and leads to one state, where it doesn't tell a least tree of a type that has entries.
 pub fn step_is_function()
     ensures { StepIsFunction }
 {}
 
-/// An input has one text that answers it, and one status.
+/// An input of which no line tells a least tree has one text that answers it, and one status.
 pub fn answers_are_one()
     ensures { AnswersAreOne }
+{}
+
+/// No tree that stands for a type's entries costs less than the one that is told of it, under the weights in force.
+pub fn told_is_least()
+    ensures { ToldIsLeast }
+{}
+
+/// `normalise` tells one cost and one base, and leads to one state, whichever least tree it tells.
+pub fn normalise_tells_one_cost()
+    ensures { NormaliseTellsOneCost }
+{}
+
+/// A rebuilt type has the entries and the marks of its type.
+pub fn rebuilt_places_the_same()
+    ensures { RebuiltPlacesTheSame }
+{}
+
+/// No constructor refuses that builds it.
+pub fn rebuilt_is_taken()
+    ensures { RebuiltIsTaken }
 {}

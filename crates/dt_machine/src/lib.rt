@@ -11,6 +11,7 @@ mod names;
 mod outcome;
 mod queries;
 pub mod state;
+mod trees;
 
 pub use dt_names::{Found, Kept};
 pub use machine::Machine;

@@ -18,5 +18,8 @@ pub const MOST_BYTES: u64 = 67_108_864;
 /// So many entries a reply lists.
 pub const MOST_ENTRIES: u64 = 4096;
 
+/// So many entries a type may have of which a least tree is told.
+pub const MOST_SOUGHT: u64 = 1024;
+
 /// So many packed bytes a reply prints.
 pub const MOST_PACKED: u128 = 16_777_216;

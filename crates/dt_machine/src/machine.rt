@@ -17,15 +17,17 @@ use dt_kinds::NoMemory;
 use dt_names::{Buffers, Found, Kept, Stop, Types};
 use dt_reply::{Refusal, Reply};
 use dt_script::{Command, LineFault, Name, parse_line};
+use dt_tree::Weights;
 use std::alloc::Global;
 use std::marker::Model;
 
-/// The types and buffers of a script, changed by its lines.
+/// The types and buffers of a script and the weights of its trees, changed by its lines.
 #[derive(Drop)]
 pub struct Machine {
     pub(crate) alloc: Global,
     types: Types,
     buffers: Buffers,
+    weights: Weights,
     totals: Totals,
 }
 
@@ -39,11 +41,11 @@ impl Model for Machine {
 
     ghost coded = { Prim.hlevel (codes, datatype.the_row.coded) };
 
-    ghost view = { λ m. record { types = m.types.entries; made = m.types.made; buffers = m.buffers; totals = m.totals } };
+    ghost view = { λ m. record { types = m.types.entries; made = m.types.made; buffers = m.buffers; weights = m.weights; totals = m.totals } };
 }
 
 impl Machine {
-    /// A machine that remembers nothing. It takes no memory.
+    /// A machine that remembers nothing, with the default weights. It takes no memory.
     pub fn new(alloc: Global) -> Machine
         ensures { result ≡ first_state }
     {
@@ -58,8 +60,16 @@ impl Machine {
             alloc,
             types: Types::new(alloc),
             buffers: Buffers::new(alloc),
+            weights: Weights::default(),
             totals,
         }
+    }
+
+    /// What the parts of trees cost.
+    pub fn weights(&self) -> Weights
+        ensures { result ≡ self.now.weights }
+    {
+        self.weights
     }
 
     /// What was counted so far.
@@ -159,6 +169,8 @@ impl Machine {
             Change::Commit { name } => self.types.commit(&name),
             Change::Free { name } => self.types.free(&name),
             Change::AddBuffer { name, buffer } => self.buffers.add(name, buffer)?,
+            Change::SetWeights { weights } => self.weights = weights,
+            Change::AddCost { cost } => self.totals.cost = self.totals.cost.saturating_add(cost),
         }
         self.totals.commands = self.totals.commands.saturating_add(1);
         Ok(())
@@ -211,6 +223,16 @@ impl Machine {
                 buffer,
                 origin,
             } => self.bytes(*rep, *count, ty, buffer, *origin),
+            Command::Weights {
+                leaf,
+                vector,
+                index,
+                place,
+                group,
+                part,
+            } => self.weigh(*leaf, *vector, *index, *place, *group, *part),
+            Command::Normalise { ty } => self.normalise(ty),
+            Command::Rebuild { name, ty } => self.rebuild(name, ty),
         }
     }
 

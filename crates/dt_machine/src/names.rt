@@ -58,8 +58,8 @@ impl Machine {
         Ok(done(Change::Free { name }))
     }
 
-    /// Why no old type of a type is named, by the names alone.
-    fn refused_child(&self, name: &Name, ty: &Name) -> Option<Refusal>
+    /// Why no new type is made of a type, by the names alone.
+    pub(crate) fn refused_names(&self, name: &Name, ty: &Name) -> Option<Refusal>
         ensures { MatchOption result (IsClear (new_type_row self.now name.now (is_unknown self.now ty.now) (is_left_out ty.now) [])) (IsFirst (new_type_row self.now name.now (is_unknown self.now ty.now) (is_left_out ty.now) [])) }
     {
         if self.is_unknown(ty) {
@@ -77,7 +77,7 @@ impl Machine {
     pub(crate) fn child(&self, name: &Name, ty: &Name, k: i32) -> Result<Outcome, Stop>
         ensures { ComesTo self.now (Child name.now ty.now k) result }
     {
-        if let Some(refusal) = self.refused_child(name, ty) {
+        if let Some(refusal) = self.refused_names(name, ty) {
             return Err(Stop::Refused(refusal));
         }
         let kept = match self.kept(ty) {

@@ -5,6 +5,7 @@ ghost use Rattle.dt_reply.specs.declared.reply.Reply.TheVariants.{Done};
 use dt_names::{Buffer, Kept};
 use dt_reply::Reply;
 use dt_script::Name;
+use dt_tree::Weights;
 
 /// What a command adds to what stands.
 #[derive(Drop)]
@@ -14,6 +15,8 @@ pub(crate) enum Change {
     Commit { name: Name },
     Free { name: Name },
     AddBuffer { name: Name, buffer: Buffer },
+    SetWeights { weights: Weights },
+    AddCost { cost: u64 },
 }
 
 /// The reply to a command that is allowed, and the change that it makes.

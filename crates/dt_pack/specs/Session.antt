@@ -1,5 +1,5 @@
 -- Pack sessions: the packed bytes of an operation (MPI 4.1, section 5.2), taken in pieces.
-use Rattle.std.specs.Prelude.{◌≡◌, ℕ, ◌+◌, ◌-◌, ◌≤◌, ℤ, pos, IsTrue, List, take, drop}
+use Rattle.std.specs.Prelude.{ℕ, ◌+◌, ◌-◌, ◌<◌, ◌≤◌, ℤ, pos, IsTrue, List, take, drop}
 use Rattle.dt_cursor.specs.Walk.{Walk}
 use Rattle.dt_kinds.specs.declared.kind.Rep.{Rep}
 use Rattle.dt_map.specs.declared.entry.Entry.{Entry}
@@ -52,3 +52,8 @@ pub record IsLimited (s : Session) : Type 0 where
   pub inside : IsTrue (are_inside s.buf_len (placed s))
   pub small : s.buf_len ≤ 16777216
   pub few : total_of s ≤ 16777216
+
+-- elements that lie in the buffer and have too many packed bytes
+pub record IsTooLarge (m : Marked) (count : ℕ) (rep : Rep) (origin : ℤ) (buf_len : ℕ) : Type 0 where
+  pub inside : IsTrue (are_inside buf_len (elements m count origin))
+  pub large : 16777216 < total rep (elements m count origin)

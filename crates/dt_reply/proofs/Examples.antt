@@ -12,8 +12,8 @@ use Rattle.dt_form.specs.declared.form.FormOf.TheVariants.{Named, Vector, Hindex
 use Rattle.dt_form.specs.Contents.{contents_of, envelope_of}
 use Rattle.dt_type.specs.Form.{result_of}
 use Rattle.dt_reply.specs.declared.refusal.Refusal.TheVariants.{TooHeavy}
-use Rattle.dt_reply.specs.Reply.{text_of, line_of, info_words, sizes_words, extent_words, true_bounds_words, map_words, envelope_words, number_words, contents_words, listed_words}
-use Rattle.dt_reply.specs.declared.reply.Reply.TheVariants.{Packed, Shown, Told, Listed, Described, Contained, Refused}
+use Rattle.dt_reply.specs.Reply.{text_of, line_of, info_words, sizes_words, extent_words, true_bounds_words, map_words, envelope_words, number_words, contents_words, listed_words, tree_words}
+use Rattle.dt_reply.specs.declared.reply.Reply.TheVariants.{Packed, Shown, Told, Listed, Described, Contained, Least, Refused}
 
 abbrev int_at : ℤ → Entry
 int_at x = record { kind = Int; disp = x }
@@ -56,6 +56,11 @@ no_bytes = refl
 refused : text_of (Refused TooHeavy) ≡ codes "refused 12 too heavy\n"
 unfolding digits line_of
 refused = refl
+
+-- a tree from 4 bytes below the origin on
+least : text_of (Least 4 (negsuc 3) (codes "vector 3 1 8 leaf MPI_INT")) ≡ codes "tree cost 4 base -4 vector 3 1 8 leaf MPI_INT\n"
+unfolding digits line_of tree_words
+least = refl
 
 abbrev int : Seen
 int = result_of (Named Int)

@@ -1,5 +1,5 @@
 -- Replies and their text.
-use Rattle.std.specs.Prelude.{◌≡◌, ℕ, ◌-ℤ◌, Bool, true, false, Option, Some, None, List, [], ◌∷◌, ◌++◌, length, map, flat_map, codes, decimal}
+use Rattle.std.specs.Prelude.{◌≡◌, ℕ, ℤ, ◌-ℤ◌, Bool, true, false, Option, Some, None, List, [], ◌∷◌, ◌++◌, length, map, flat_map, codes, decimal}
 use Rattle.std.specs.Fmt.{signed_decimal}
 use Rattle.hex.specs.Hex.{encode_lower}
 use Rattle.dt_kinds.specs.Kind.{name_of}
@@ -18,7 +18,7 @@ use Rattle.dt_form.specs.Contents.{combiner_of}
 use Rattle.dt_type.specs.Datatype.{form_of}
 use Rattle.dt_reply.specs.Refusal.{number_of, word_of}
 use Rattle.dt_reply.specs.declared.reply.Reply.{Reply}
-use Rattle.dt_reply.specs.declared.reply.Reply.TheVariants.{Silent, Done, Packed, Shown, Told, Listed, Described, Contained, Refused}
+use Rattle.dt_reply.specs.declared.reply.Reply.TheVariants.{Silent, Done, Packed, Shown, Told, Listed, Described, Contained, Least, Refused}
 
 -- a word behind a space
 abbrev pub spaced : List ℕ → List ℕ
@@ -128,6 +128,10 @@ contents_words c =
     ++ listed_words (codes "addresses") signed_decimal c.addresses
     ++ listed_words (codes "types") (λ t. old_word (form_of t)) c.types
 
+-- what a least tree costs, where it begins, and its text
+unfoldable pub tree_words : ℕ → ℤ → List ℕ → List (List ℕ)
+tree_words cost base text = codes "cost" ∷ decimal cost ∷ codes "base" ∷ signed_decimal base ∷ text ∷ []
+
 -- the line that a reply writes
 abbrev pub text_of : Reply → List ℕ
 text_of Silent = []
@@ -138,6 +142,7 @@ text_of (Told bounds committed) = line_of (codes "info") (info_words bounds comm
 text_of (Listed m) = line_of (codes "map") (map_words m)
 text_of (Described envelope) = line_of (codes "envelope") (envelope_words envelope)
 text_of (Contained contents) = line_of (codes "contents") (contents_words contents)
+text_of (Least cost base text) = line_of (codes "tree") (tree_words cost base text)
 text_of (Refused refusal) = line_of (codes "refused") (decimal (number_of refusal) ∷ word_of refusal ∷ [])
 
 -- every reply but a refusal

@@ -9,5 +9,5 @@ mod text;
 pub use refusal::Refusal;
 pub use reply::{
     OK, Reply, contents_line, envelope_line, info_line, map_line, ok_line, packed_line,
-    refusal_line, shown_line,
+    refusal_line, shown_line, tree_line,
 };

@@ -19,9 +19,9 @@ pub enum Refusal {
     NamedType,
     /// The type has no old type of that number.
     NoSuchChild,
-    /// A count, a length or another argument is outside what MPI allows, such as a negative count.
+    /// A count, a length or another argument is outside what MPI allows, such as a negative count; or a weight is out of range.
     BadArgument,
-    /// A bound or the size of the type to be made is out of range.
+    /// A bound or the size of the type to be made is out of range, or the entries of the type to be rebuilt lie too far apart.
     Overflow,
     /// The type to be made would have too many levels.
     TooDeep,
@@ -29,7 +29,7 @@ pub enum Refusal {
     TooHeavy,
     /// As many types, or buffers, as may stand do stand.
     TooManyNames,
-    /// The typemap to be listed has more entries than a reply may list.
+    /// The typemap has more entries than a reply may list, or than a least tree is looked for.
     TooManyEntries,
     /// Some byte of some element lies outside the buffer.
     Outside,

@@ -1,13 +1,13 @@
 //! What is replied, and the line that says so. Each line is made in new memory, and `NoMemory` is answered where that runs out.
 ghost use Rattle.std.specs.Prelude.{◌≡◌, ◌++◌, IfOk, OnOk, OnErr};
 ghost use Rattle.dt_reply.specs.Reply.{text_of, is_accepted, bytes_words, line_of};
-ghost use Rattle.dt_reply.specs.declared.reply.Reply.TheVariants.{Contained, Described, Done, Listed, Packed, Refused, Shown, Told};
+ghost use Rattle.dt_reply.specs.declared.reply.Reply.TheVariants.{Contained, Described, Done, Least, Listed, Packed, Refused, Shown, Told};
 
 use crate::arguments::{push_envelope, push_listed, push_types};
 use crate::refusal::Refusal;
 use crate::text::{
-    push_committed, push_entries, push_extent, push_hex, push_marks, push_number, push_sizes,
-    push_true_bounds, push_word,
+    push_committed, push_entries, push_extent, push_field, push_hex, push_marks, push_number,
+    push_sizes, push_true_bounds, push_word,
 };
 use dt_kinds::NoMemory;
 use dt_map::{Bounds, FlatMap};
@@ -122,6 +122,20 @@ pub fn contents_line(alloc: Global, contents: &Contents) -> Result<Vec<u8>, NoMe
     Ok(line)
 }
 
+/// `tree cost COST base BASE` and the text of a tree, or `empty`: what the tree costs, and from where on, in bytes, it stands for a
+/// typemap.
+#[tactic(auto, unfolding(crate::specs::Reply::line_of, crate::specs::Reply::tree_words))]
+pub fn tree_line(alloc: Global, cost: u64, base: i64, text: &[u8]) -> Result<Vec<u8>, NoMemory>
+    ensures { IfOk result (λ line. line.items ≡ text_of (Least cost base text.now)) }
+{
+    let mut line = Vec::from_slice(alloc, b"tree")?;
+    push_field(&mut line, b"cost", cost)?;
+    push_field(&mut line, b"base", base)?;
+    push_word(&mut line, text)?;
+    line.extend_from_slice(b"\n")?;
+    Ok(line)
+}
+
 /// What is replied to a line.
 #[derive(Drop)]
 pub enum Reply {
@@ -141,6 +155,8 @@ pub enum Reply {
     Described(Envelope),
     /// Contents.
     Contained(Contents),
+    /// What a least tree costs, where it begins, in bytes, and its text.
+    Least { cost: u64, base: i64, text: Bytes },
     /// A refusal.
     Refused(Refusal),
 }
@@ -159,6 +175,7 @@ impl Reply {
             Reply::Listed(map) => map_line(alloc, map),
             Reply::Described(envelope) => envelope_line(alloc, *envelope),
             Reply::Contained(contents) => contents_line(alloc, contents),
+            Reply::Least { cost, base, text } => tree_line(alloc, *cost, *base, text.as_slice()),
             Reply::Refused(refusal) => refusal_line(alloc, *refusal),
         }
     }

@@ -29,7 +29,7 @@ no_more a b e some le =
     ]
 
 -- a part at the end of a list was written
-last_written : (front old mid new : List ℕ) (a k : ℕ) → mid ≡ front ++ drop a old → length front ≡ a → length old ≤ a + k → put_mid a k mid new ≡ front ++ new
+pub last_written : (front old mid new : List ℕ) (a k : ℕ) → mid ≡ front ++ drop a old → length front ≡ a → length old ≤ a + k → put_mid a k mid new ≡ front ++ new
 last_written front old mid new a k is long all =
     let before : take a mid ≡ front = ap (take a) is ∙ take_at front (drop a old) a long in
     let after : drop k (drop a mid) ≡ [] =

@@ -8,3 +8,4 @@ pub mod Packing
 pub mod RowBytes
 pub mod SettingRows
 pub mod Stored
+pub mod Totals

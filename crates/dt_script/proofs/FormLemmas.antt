@@ -1,10 +1,10 @@
 -- What a form's description reads is what it spells, said once for all forms.
-use Rattle.std.proofs.Common.{◌≡◌, ℕ, Bool, true, false, cond, List, [], ◌∷◌, Option, Some, None, option_map, refl, ap, sym, subst, ◌∙◌}
+use Rattle.std.proofs.Common.{◌≡◌, ℕ, true, false, cond, List, [], ◌∷◌, Option, Some, None, option_map, refl, ap, sym, subst, ◌∙◌}
 use Rattle.std.proofs.lemmas.Slice.Eq.{bytes_eq-Decides}
 use Rattle.std.specs.Str.{bytes_eq}
 use Rattle.dt_script.specs.Form.{Fields, END, WORD, ◌&◌, EACH, REST, Form, Values, Spells, values_at, made_of, behind, one_of, any_of}
-use Rattle.dt_script.specs.Item.{IsItem, Words, ◌spell◌, ◌then◌, the, end}
-use Rattle.dt_script.specs.Reading.{◌>>=◌, end_at, keyword_at, item_at, items_at, item_of}
+use Rattle.dt_script.specs.Item.{IsItem, Words, ◌spell◌, ◌then◌, the}
+use Rattle.dt_script.specs.Reading.{end_at, keyword_at, item_at, item_of}
 use Rattle.dt_script.proofs.ItemLemmas.{item_sound, item_complete}
 use Rattle.dt_script.proofs.ReadingLemmas.{bind_some, from_some, item_some, keyword_some, are_sound, are_complete}
 

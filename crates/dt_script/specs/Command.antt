@@ -2,7 +2,7 @@
 use Rattle.std.specs.Prelude.{codes}
 use Rattle.dt_kinds.specs.declared.kind.Rep.TheVariants.{Native, External32}
 use Rattle.dt_script.specs.declared.command.Command.{Command}
-use Rattle.dt_script.specs.declared.command.Command.TheVariants.{Define, Child, Commit, Free, Info, Map, Envelope, Contents, Buffer, Show, Bytes}
+use Rattle.dt_script.specs.declared.command.Command.TheVariants.{Define, Child, Commit, Free, Info, Map, Envelope, Contents, Buffer, Show, Bytes, Weights, Normalise, Rebuild}
 use Rattle.dt_script.specs.declared.command.Ctor.{Ctor}
 use Rattle.dt_script.specs.declared.command.Ctor.TheVariants.{Contiguous, Vector, Hvector, Indexed, Hindexed, IndexedBlock, HindexedBlock, Struct, Resized, Dup, Subarray, Darray}
 use Rattle.dt_script.specs.declared.command.Fill.{Fill}
@@ -54,3 +54,7 @@ IsCommand words (Show buffer) = words spell the (codes "show") then item NAME bu
 IsCommand words (Bytes Native count ty buffer origin) =
     words spell the (codes "bytes") then the (codes "native") then item INT count then item NAME ty then item NAME buffer then item ADDR origin then end
 IsCommand words (Bytes External32 count ty buffer origin) = ⊥
+IsCommand words (Weights leaf vector index place group part) =
+    words spell the (codes "weights") then item INT leaf then item INT vector then item INT index then item INT place then item INT group then item INT part then end
+IsCommand words (Normalise ty) = words spell the (codes "normalise") then item NAME ty then end
+IsCommand words (Rebuild name ty) = words spell the (codes "rebuild") then item NAME name then the (codes "=") then item NAME ty then end

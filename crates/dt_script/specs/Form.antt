@@ -1,9 +1,9 @@
 -- A line form by description: which words it asks for, one after another, and what they make. How it is read follows from that.
-use Rattle.std.specs.Prelude.{ℕ, cond, List, [], ◌∷◌, Option, Some, None}
+use Rattle.std.specs.Prelude.{ℕ, cond, List, [], ◌∷◌, Option, None}
 use Rattle.std.specs.Option.{option_map}
 use Rattle.std.specs.Str.{bytes_eq}
 use Rattle.dt_script.specs.Item.{Item, Value, Words, Text, ◌then◌, the, item, each, end}
-use Rattle.dt_script.specs.Reading.{◌>>=◌, word_at, end_at, keyword_at, item_at, items_at, pair_at, item_of}
+use Rattle.dt_script.specs.Reading.{◌>>=◌, word_at, end_at, keyword_at, items_at, pair_at, item_of}
 
 -- a form of its own that takes all the words that are left, as a relation and as a reader
 pub record Rest (A : Type 0) : Type 1 where

@@ -2,7 +2,7 @@
 use Rattle.std.specs.Prelude.{List, [], ◌∷◌, Option, codes}
 use Rattle.dt_kinds.specs.declared.kind.Rep.TheVariants.{Native}
 use Rattle.dt_script.specs.declared.command.Command.{Command}
-use Rattle.dt_script.specs.declared.command.Command.TheVariants.{Define, Child, Commit, Free, Info, Map, Envelope, Contents, Buffer, Show, Bytes}
+use Rattle.dt_script.specs.declared.command.Command.TheVariants.{Define, Child, Commit, Free, Info, Map, Envelope, Contents, Buffer, Show, Bytes, Weights, Normalise, Rebuild}
 use Rattle.dt_script.specs.declared.command.Ctor.{Ctor}
 use Rattle.dt_script.specs.declared.command.Ctor.TheVariants.{Contiguous, Vector, Hvector, Indexed, Hindexed, IndexedBlock, HindexedBlock, Struct, Resized, Dup, Subarray, Darray}
 use Rattle.dt_script.specs.declared.command.Fill.{Fill}
@@ -117,9 +117,21 @@ show = form (codes "show") (NAME & END) Show
 abbrev pub bytes : Form Command
 bytes = form (codes "bytes") (WORD (codes "native") (INT & NAME & NAME & ADDR & END)) (Bytes Native)
 
--- those on buffers; those that ask about types, and the former; and all
+abbrev pub weights : Form Command
+weights = form (codes "weights") (INT & INT & INT & INT & INT & INT & END) Weights
+
+abbrev pub normalise : Form Command
+normalise = form (codes "normalise") (NAME & END) Normalise
+
+abbrev pub rebuild : Form Command
+rebuild = form (codes "rebuild") (NAME & WORD (codes "=") (NAME & END)) Rebuild
+
+-- those on trees; those on buffers, and the former; those that ask about types, and these; and all
+unfoldable pub tree_forms : List (Form Command)
+tree_forms = weights ∷ normalise ∷ rebuild ∷ []
+
 unfoldable pub buffer_forms : List (Form Command)
-buffer_forms = buffer ∷ show ∷ bytes ∷ []
+buffer_forms = buffer ∷ show ∷ bytes ∷ tree_forms
 
 unfoldable pub question_forms : List (Form Command)
 question_forms = info ∷ map ∷ envelope ∷ contents ∷ buffer_forms

@@ -62,6 +62,24 @@ pub enum Command {
         buffer: Name,
         origin: i64,
     },
+    /// `weights LEAF VECTOR INDEX PLACE GROUP PART`
+    Weights {
+        leaf: i32,
+        vector: i32,
+        index: i32,
+        place: i32,
+        group: i32,
+        part: i32,
+    },
+    /// `normalise TYPE`
+    Normalise {
+        ty: Name,
+    },
+    /// `rebuild NAME = TYPE`
+    Rebuild {
+        name: Name,
+        ty: Name,
+    },
 }
 
 /// What makes a type, with old types by their names. Lengths of blocks count copies; a stride or a displacement counts extents of

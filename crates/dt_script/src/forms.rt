@@ -3,7 +3,7 @@ ghost use Rattle.std.specs.Prelude.{◌≡◌};
 ghost use Rattle.dt_script.specs.Words.{words_of};
 ghost use Rattle.dt_script.specs.Reading.{Gives};
 ghost use Rattle.dt_script.specs.Form.{behind, one_of};
-ghost use Rattle.dt_script.specs.Forms.{hex, fill_of, define, child, buffer, bytes, buffer_forms, question_forms, command_of};
+ghost use Rattle.dt_script.specs.Forms.{hex, fill_of, define, child, buffer, bytes, weights, rebuild, tree_forms, buffer_forms, question_forms, command_of};
 
 use crate::command::{Command, Fill};
 use crate::ctors::ctor;
@@ -86,7 +86,49 @@ fn bytes(alloc: Global, line: &[u8]) -> Result<Command, LineFault>
     })
 }
 
-/// What follows the first word of a command on buffers.
+/// `LEAF VECTOR INDEX PLACE GROUP PART`
+fn weights(alloc: Global, line: &[u8]) -> Result<Command, LineFault>
+    ensures { Gives (λ x. x) result (behind weights (words_of line.now)) }
+{
+    let (leaf, (vector, (index, (place, (group, (part, ())))))) = Fields::read(alloc, line)?;
+    Ok(Command::Weights {
+        leaf,
+        vector,
+        index,
+        place,
+        group,
+        part,
+    })
+}
+
+/// `NAME = TYPE`
+fn rebuild(alloc: Global, line: &[u8]) -> Result<Command, LineFault>
+    ensures { Gives (λ x. x) result (behind rebuild (words_of line.now)) }
+{
+    let (name, line) = item(line)?;
+    let line = keyword(b"=", line)?;
+    let (ty, ()) = Fields::read(alloc, line)?;
+    Ok(Command::Rebuild { name, ty })
+}
+
+/// What follows the first word of a command on trees.
+#[tactic(auto, unfolding(crate::specs::Forms::tree_forms))]
+fn on_trees(alloc: Global, first: &[u8], line: &[u8]) -> Result<Command, LineFault>
+    ensures { Gives (λ x. x) result (one_of tree_forms first.now (words_of line.now)) }
+{
+    if first == b"weights".as_slice() {
+        weights(alloc, line)
+    } else if first == b"normalise".as_slice() {
+        let (ty, ()) = Fields::read(alloc, line)?;
+        Ok(Command::Normalise { ty })
+    } else if first == b"rebuild".as_slice() {
+        rebuild(alloc, line)
+    } else {
+        Err(LineFault::Syntax)
+    }
+}
+
+/// What follows the first word of a command on buffers, or of one on trees.
 #[tactic(auto, unfolding(crate::specs::Forms::buffer_forms))]
 fn on_buffers(alloc: Global, first: &[u8], line: &[u8]) -> Result<Command, LineFault>
     ensures { Gives (λ x. x) result (one_of buffer_forms first.now (words_of line.now)) }
@@ -99,11 +141,11 @@ fn on_buffers(alloc: Global, first: &[u8], line: &[u8]) -> Result<Command, LineF
     } else if first == b"bytes".as_slice() {
         bytes(alloc, line)
     } else {
-        Err(LineFault::Syntax)
+        on_trees(alloc, first, line)
     }
 }
 
-/// What follows the first word of a command that asks about a type, or of one on buffers.
+/// What follows the first word of a command that asks about a type, or of one on buffers or trees.
 #[tactic(auto, unfolding(crate::specs::Forms::question_forms))]
 fn question(alloc: Global, first: &[u8], line: &[u8]) -> Result<Command, LineFault>
     ensures { Gives (λ x. x) result (one_of question_forms first.now (words_of line.now)) }

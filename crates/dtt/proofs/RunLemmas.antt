@@ -1,5 +1,5 @@
 -- A run goes on by one line, ends, or is cut short.
-use Rattle.std.proofs.Common.{◌≡◌, ℕ, Bool, true, false, ◌&&◌, List, [], ◌∷◌, ◌++◌, take, drop, Option, Some, None, refl, ap, sym, subst, ◌∙◌, append_assoc, take-append-drop}
+use Rattle.std.proofs.Common.{◌≡◌, ℕ, Bool, true, ◌&&◌, List, [], ◌∷◌, ◌++◌, take, drop, Option, Some, None, refl, ap, sym, subst, ◌∙◌, append_assoc, take-append-drop}
 use Rattle.std.proofs.KnownBytes.{Appends-nil, Appends-trans}
 use Rattle.std.proofs.Math.Bool.{and-true}
 use Rattle.std.proofs.lemmas.Grind.{flat_map-append}
@@ -9,7 +9,7 @@ use Rattle.std.specs.Io.KnownBytes.{Appends}
 use Rattle.dt_base.specs.Transfer.{AppendsFront}
 use Rattle.dt_machine.specs.Answers.{Run, Answers, text_of_all, are_accepted}
 use Rattle.dt_script.specs.Lines.{script_lines}
-use Rattle.dt_machine.specs.Reply.{text_of, is_accepted, Gives, Responds}
+use Rattle.dt_machine.specs.Reply.{text_of, is_accepted, Responds}
 use Rattle.dt_reply.specs.declared.reply.Reply.{Reply}
 use Rattle.dt_machine.specs.State.{State, first_state}
 use Rattle.dt_machine.specs.Step.{Step}

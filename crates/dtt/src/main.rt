@@ -7,6 +7,8 @@ mod rows;
 mod status;
 #[cfg(test)]
 mod tests;
+#[cfg(test)]
+mod tree_rows;
 
 use call::dtt;
 use dt_base::{StdSink, StdSource};

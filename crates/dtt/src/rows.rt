@@ -7,7 +7,7 @@ use std::fmt::Write;
 use std::test::Fail;
 
 /// A script, the status of its run, and its replies.
-type Row = (&'static str, u8, &'static str);
+pub(crate) type Row = (&'static str, u8, &'static str);
 
 /// Bounds and typemaps: rounding, marks that win over the natural bounds, the greatest displacement.
 const TYPES: [Row; 5] = [

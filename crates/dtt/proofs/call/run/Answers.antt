@@ -1,4 +1,4 @@
-use Rattle.std.proofs.Common.{◌≡◌, List, ℕ, [], true, subst, sym, arith}
+use Rattle.std.proofs.Common.{List, ℕ, true, subst, sym, arith}
 use Rattle.dt_base.specs.Transfer.{AppendsFront}
 use Rattle.std.specs.Io.KnownBytes.{Appends}
 use Rattle.dt_machine.specs.Reply.{Responds}

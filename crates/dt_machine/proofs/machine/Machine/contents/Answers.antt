@@ -1,8 +1,6 @@
-use Rattle.std.proofs.Common.{refl, ap, ◌∙◌}
+use Rattle.std.proofs.Common.{refl, ap}
 use Rattle.dt_reply.specs.declared.reply.Reply.TheVariants.{Contained}
 use Rattle.dt_script.specs.declared.command.Command.TheVariants.{Contents}
-use Rattle.dt_form.specs.Contents.{contents_of}
-use Rattle.dt_type.specs.Datatype.{form_of}
 use Rattle.dt_machine.proofs.Operations.{contents_allowed, contents_missing, contents_named}
 use Rattle.dt_machine.proofs.Outcomes.{told_outcome}
 use Rattle.dt_machine.proofs.machine.Machine.contents.Goals as goal

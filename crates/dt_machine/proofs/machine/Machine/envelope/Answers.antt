@@ -1,8 +1,6 @@
-use Rattle.std.proofs.Common.{refl, ap, ◌∙◌}
+use Rattle.std.proofs.Common.{refl, ap}
 use Rattle.dt_reply.specs.declared.reply.Reply.TheVariants.{Described}
 use Rattle.dt_script.specs.declared.command.Command.TheVariants.{Envelope}
-use Rattle.dt_form.specs.Contents.{envelope_of}
-use Rattle.dt_type.specs.Datatype.{form_of}
 use Rattle.dt_machine.proofs.Operations.{envelope_allowed, envelope_missing}
 use Rattle.dt_machine.proofs.Outcomes.{told_outcome}
 use Rattle.dt_machine.proofs.machine.Machine.envelope.Goals as goal

@@ -1,8 +1,6 @@
-use Rattle.std.proofs.Common.{refl, ap, ◌∙◌}
-use Rattle.dt_map.specs.Bounds.{bounds_of}
+use Rattle.std.proofs.Common.{refl, ap}
 use Rattle.dt_reply.specs.declared.reply.Reply.TheVariants.{Told}
 use Rattle.dt_script.specs.declared.command.Command.TheVariants.{Info}
-use Rattle.dt_type.specs.Datatype.{typemap_of}
 use Rattle.dt_machine.proofs.Operations.{info_allowed, info_missing}
 use Rattle.dt_machine.proofs.Outcomes.{told_outcome}
 use Rattle.dt_machine.proofs.machine.Machine.info.Goals as goal

@@ -1,7 +1,6 @@
-use Rattle.std.proofs.Common.{refl, ap, ◌∙◌}
+use Rattle.std.proofs.Common.{refl, ap}
 use Rattle.dt_reply.specs.declared.reply.Reply.TheVariants.{Listed}
 use Rattle.dt_script.specs.declared.command.Command.TheVariants.{Map}
-use Rattle.dt_type.specs.Datatype.{typemap_of}
 use Rattle.dt_machine.proofs.Operations.{map_allowed, map_missing, map_too_many}
 use Rattle.dt_machine.proofs.Outcomes.{told_outcome}
 use Rattle.dt_machine.proofs.machine.Machine.map.Goals as goal
