@@ -4,6 +4,7 @@ pub mod Filling
 pub mod Gathering
 pub mod InsideRows
 pub mod Joined
+pub mod Operation
 pub mod Packing
 pub mod RowBytes
 pub mod SettingRows

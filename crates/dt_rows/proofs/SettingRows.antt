@@ -23,6 +23,7 @@ use Rattle.dt_rows.specs.Pieces.{IsPiece}
 use Rattle.dt_rows.specs.Rows.{element_at, adjacent, elements_of_rows}
 use Rattle.dt_rows.specs.Storing.{each_put, stored, set_rows}
 use Rattle.dt_rows.proofs.Joined.{take_further}
+use Rattle.dt_rows.proofs.Totals.{total_of_adjacent}
 use Rattle.dt_rows.proofs.Stored.{put_more, put_same, put_everywhere, stored_same}
 
 total-cons : (rep : Rep) (e : Entry) (es : List Entry) → total rep (e ∷ es) ≡ packed_size rep e.kind + total rep es
@@ -40,12 +41,6 @@ pub set_is_stored : (rep : Rep) (kind : Kind) (places : List ℤ) (buffer images
 set_is_stored rep kind [] buffer images = refl
 set_is_stored rep kind (x ∷ places) buffer images =
     set_is_stored rep kind places (set_one rep (element_at kind x) buffer (take (packed_size rep kind) images)) (drop (packed_size rep kind) images)
-
-total_of_kind : (rep : Rep) (kind : Kind) (places : List ℤ) → total rep (map (element_at kind) places) ≡ length places * packed_size rep kind
-total_of_kind rep kind [] = omega arith
-total_of_kind rep kind (x ∷ places) =
-    let more : suc (length places) * packed_size rep kind ≡ packed_size rep kind + length places * packed_size rep kind = omega arith in
-    total-cons rep (element_at kind x) (map (element_at kind) places) ∙ ap (λ n. packed_size rep kind + n) (total_of_kind rep kind places) ∙ sym more
 
 length-written : (buffer : List ℕ) (at : ℕ) (bytes : List ℕ) → at + length bytes ≤ length buffer → length (written buffer at bytes) ≡ length buffer
 length-written buffer at bytes fits =
@@ -71,7 +66,7 @@ written_further buffer at n p q long room =
     ∙ ap (λ s. front ++ s) (sym (append_assoc p q (drop (at + length (p ++ q)) buffer)))
 
 -- the first bytes of a list, in two pieces
-drop_none : {A : Type 0} (xs : List A) → drop 0 xs ≡ xs
+pub drop_none : {A : Type 0} (xs : List A) → drop 0 xs ≡ xs
 drop_none [] = refl
 drop_none (x ∷ xs) = refl
 
@@ -145,16 +140,13 @@ rows_are_set rep r origin start buffer images is = up_to r.rows
         ∙ map-append (shift_entry origin) (flat_map (adjacent kind n) (row_offsets r.run.disp m r.step)) (adjacent kind n x)
         ∙ ap (λ es. front m ++ es) (shift_adjacent kind n x (start +ℤ (pos m *ℤ r.step)) origin (at m))
 
-    row_total : (x : ℤ) → total rep (adjacent kind n x) ≡ n * packed_size rep kind
-    row_total x = total_of_kind rep kind (row_offsets x n (pos (native_size kind))) ∙ ap (λ k. k * packed_size rep kind) (count-row x (pos (native_size kind)) n)
-
     front_total : (m : ℕ) → total rep (front m) ≡ m * (n * packed_size rep kind)
     front_total zero = let none : 0 * (n * packed_size rep kind) ≡ 0 = omega arith in sym none
     front_total (suc m) =
         let more : m * (n * packed_size rep kind) + n * packed_size rep kind ≡ suc m * (n * packed_size rep kind) = omega arith in
         let x = start +ℤ (pos m *ℤ r.step) in
         ap (total rep) (front_more m) ∙ total-append rep (front m) (adjacent kind n x) ∙ ap (λ k. k + total rep (adjacent kind n x)) (front_total m)
-        ∙ ap (λ k. m * (n * packed_size rep kind) + k) (row_total x) ∙ more
+        ∙ ap (λ k. m * (n * packed_size rep kind) + k) (total_of_adjacent rep kind n x) ∙ more
 
     up_to : (m : ℕ) → set_each rep (front m) buffer images ≡ set_rows rep kind n (row_offsets start m r.step) buffer images
     up_to zero = refl

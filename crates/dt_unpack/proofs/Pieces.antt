@@ -97,7 +97,7 @@ take_front n xs ys within =
     ap (λ zs. take n (zs ++ ys)) (sym (take-append-drop n xs)) ∙ ap (take n) (append_assoc (take n xs) (drop n xs) ys)
     ∙ take_at (take n xs) (drop n xs ++ ys) n (length-take-le n xs within)
 
-set_front : (rep : Rep) (es : List Entry) (buffer images more : List ℕ) → total rep es ≤ length images → set_each rep es buffer (images ++ more) ≡ set_each rep es buffer images
+pub set_front : (rep : Rep) (es : List Entry) (buffer images more : List ℕ) → total rep es ≤ length images → set_each rep es buffer (images ++ more) ≡ set_each rep es buffer images
 set_front rep [] buffer images more enough = refl
 set_front rep (e ∷ es) buffer images more enough =
     let size = packed_size rep e.kind in
@@ -183,3 +183,21 @@ module _ (s : Session) (before rest : List Entry) (b : IsBetween s before rest) 
       ∙ sym (set_append s.rep (shift x first) (shift x second) buffer images)
       ∙ ap (λ es. set_each s.rep es buffer images) (sym (ap (shift x) completed_both ∙ map-append (shift_entry x) first second))
       ∙ sym (set_completed s buffer (p ++ q))
+
+-- one more piece
+pub more_given : (s : Session) (before rest : List Entry) (b : IsBetween s before rest) (p q joined old mid new : List ℕ) (t u : Session)
+    → t ≡ after s p → mid ≡ buffer_after s old p → u ≡ after t q → new ≡ buffer_after t mid q → p ++ q ≡ joined
+    → (u ≡ after s joined) × (new ≡ buffer_after s old joined)
+more_given s before rest b p q joined old mid new t u first set_first second set_second same = (
+  second ∙ ap (λ v. after v q) first ∙ after_both s before rest b p q ∙ ap (after s) same,
+  set_second ∙ ap (λ m. buffer_after t m q) set_first ∙ ap (λ v. buffer_after v (buffer_after s old p) q) first ∙ buffer_both s before rest b p q old ∙ ap (buffer_after s old) same,
+)
+
+-- how many elements a piece completes
+pub completes_more : (s : Session) (piece : List ℕ) → complete s ≤ complete_with s piece
+completes_more s piece = done_rises s.rep s.elements s.given (s.given + length piece) (omega arith)
+
+pub completed_count : (s : Session) (piece : List ℕ) → complete_with s piece - complete s ≡ length (completed s piece)
+completed_count s piece =
+    let most = (done_is_greatest s.rep s.elements (s.given + length piece)).0 in
+    sym (length-take-le (complete_with s piece - complete s) (drop (complete s) s.elements) (omega (arith, most, length-drop (complete s) s.elements)))

@@ -8,10 +8,10 @@ ghost use Rattle.dt_unpack.specs.declared.fault.UnpackFault.TheVariants as Unpac
 ghost use Rattle.dt_unpack.specs.Session.{total_of, rest_of, complete, completed, after, buffer_after, walk_of, opened, placed};
 
 use crate::fault::{Truncated, UnpackFault};
-use crate::parts::{packed_bytes_of, shortened};
+use crate::parts::{copies_of, hold, packed_bytes_of, set_whole, shortened};
 use arrayvec::ArrayVec;
 use dt_cursor::Cursor;
-use dt_elems::{overlaps, packed_size, span_inside};
+use dt_elems::{copy_size, overlaps, span_inside};
 use dt_kinds::Rep;
 use dt_layout::compile;
 use dt_rows::{Rows, Run, scatter};
@@ -108,7 +108,7 @@ impl UnpackSession {
         if overlaps(alloc, ty, count, origin, buf_len)? {
             return Err(UnpackFault::Overlap);
         }
-        let one = packed_size(ty, rep, 1) as u64;
+        let one = copy_size(ty, rep);
         Ok(UnpackSession {
             cursor: first_cursor(alloc, ty, count, rep, origin, buf_len)?,
             origin,
@@ -138,15 +138,10 @@ impl UnpackSession {
         ensures { result ≡ record { bytes = self.now.given; elements = complete self.now; copies = counts.whole_copies self.now.one self.now.given } }
     {
         let bytes = self.cursor.position();
-        let copies = if self.one == 0 {
-            (bytes == 0).then_some(0)
-        } else {
-            (bytes % self.one == 0).then_some(bytes / self.one)
-        };
         Counts {
             bytes,
             elements: self.complete,
-            copies,
+            copies: copies_of(self.one, bytes),
         }
     }
 
@@ -196,16 +191,12 @@ impl UnpackSession {
         let rep = self.cursor.rep();
         let size = packed_bytes_of(rows.run.kind, rep);
         let elements = rows.run.bytes / size;
-        let whole = (rows.rows * elements * size) as usize;
-        if elements > 0 {
-            let rows = shortened(&rows, elements, elements * size);
-            scatter(rep, &rows, self.origin, &piece[..whole], buf);
-            self.complete += rows.rows * elements;
-        }
+        let whole = shortened(&rows, elements, elements * size);
+        let bytes = (whole.rows * whole.run.bytes) as usize;
         let taken = (rows.rows * rows.run.bytes) as usize;
-        'tail: for byte in &piece[whole..taken] {
-            self.held.push(*byte);
-        }
+        set_whole(rep, &whole, self.origin, &piece[..bytes], buf);
+        hold(&mut self.held, &piece[bytes..taken]);
+        self.complete += rows.rows * elements;
         taken
     }
 
