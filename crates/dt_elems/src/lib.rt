@@ -12,4 +12,4 @@ mod span;
 pub use bytes::packed_bytes;
 pub use counts::{whole_copies, whole_elements};
 pub use overlap::overlaps;
-pub use span::{packed_size, span_inside};
+pub use span::{copy_size, packed_size, span_inside};

@@ -21,7 +21,7 @@ fn is_whole(run: Run) -> bool
 }
 
 /// Where the first element lies.
-fn start_of(rep: Rep, rows: &Rows, origin: i64, buffer: &[u8]) -> i64
+pub(crate) fn start_of(rep: Rep, rows: &Rows, origin: i64, buffer: &[u8]) -> i64
     requires shape { AreRows rep rows.now }
     requires inside { IsTrue (are_inside (length buffer.now) (shift origin (elements_of_rows rows.now))) }
     requires near { length buffer.now < 2 ^ 63 }
