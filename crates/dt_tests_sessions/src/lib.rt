@@ -16,3 +16,5 @@ mod overlapping;
 mod packing;
 #[cfg(test)]
 mod programs;
+#[cfg(test)]
+mod unpacking;

@@ -1,5 +1,5 @@
 -- What holds of a session as it is opened.
-use Rattle.std.proofs.Common.{◌≡◌, ℕ, ◌+◌, ◌^◌, ◌≤◌, ◌<◌, true, ℤ, pos, List, [], ◌∷◌, inl, inr, refl, sym, ap, subst, ◌∙◌, arith}
+use Rattle.std.proofs.Common.{◌≡◌, ℕ, ◌^◌, ◌≤◌, ◌<◌, true, ℤ, pos, List, [], ◌∷◌, inl, inr, refl, sym, ap, ◌∙◌, arith}
 use Rattle.std.proofs.lemmas.Bool.{cases_lt}
 use Rattle.dt_cursor.specs.Search.{AreHeld}
 use Rattle.dt_elems.proofs.Clashes.{overlaps_from_size}
@@ -10,7 +10,7 @@ use Rattle.dt_kinds.proofs.Table.{native_size-pos, external_size-pos}
 use Rattle.dt_map.specs.declared.entry.Entry.{Entry}
 use Rattle.dt_map.specs.Elements.{elements, are_inside, Overlaps}
 use Rattle.dt_map.specs.Packed.{total}
-use Rattle.dt_map.specs.Typemap.{Marked, shift}
+use Rattle.dt_map.specs.Typemap.{Marked}
 use Rattle.dt_map.proofs.Copies.{total-shift}
 use Rattle.dt_rows.proofs.Operation.{placed_elements}
 
@@ -24,7 +24,7 @@ small_in_memory m count len origin small inside apart =
       | inr few ↦ omega (arith, few, small, moved)
     ]
 
-packed_size-pos : (rep : Rep) (e : Entry) → 0 < packed_size rep e.kind
+pub packed_size-pos : (rep : Rep) (e : Entry) → 0 < packed_size rep e.kind
 packed_size-pos Native e = native_size-pos e.kind
 packed_size-pos External32 e = external_size-pos e.kind
 

@@ -1,6 +1,6 @@
 -- What a piece does to a session, and two pieces one after the other.
-use Rattle.std.specs.Prelude.{◌≡◌, ℕ, ◌+◌, ◌-◌, ◌<◌, ◌≤◌, ◌<ℤ◌, ℤ, nat_le, cond, suc, List, [], ◌∷◌, ◌++◌, map, take, drop, length}
-use Rattle.std.proofs.Common.{inl, inr, refl, sym, ap, subst, ◌∙◌, arith, append_assoc, append-nil, length-append, length-drop}
+use Rattle.std.specs.Prelude.{◌≡◌, ℕ, ◌+◌, ◌-◌, ◌≤◌, cond, suc, Bool, List, [], ◌∷◌, ◌++◌, take, drop, length}
+use Rattle.std.proofs.Common.{inl, inr, refl, sym, ap, subst, ◌∙◌, arith, append_assoc, length-append, length-drop}
 use Rattle.std.proofs.lemmas.Bool.Decides.{leb_tells}
 use Rattle.std.proofs.lemmas.List.{drop-drop, drop-map, drop_at, map-append, take-append-drop, take-map, take_at, length-take-le}
 use Rattle.std.proofs.lemmas.List.Sums.{sum_by-cons}
@@ -10,13 +10,13 @@ use Rattle.dt_kinds.specs.declared.kind.Rep.{Rep}
 use Rattle.dt_kinds.specs.Kind.{packed_size}
 use Rattle.dt_map.specs.declared.entry.Entry.{Entry}
 use Rattle.dt_map.specs.Packed.{total}
-use Rattle.dt_map.specs.Setting.{done, set_one, set_each, set}
+use Rattle.dt_map.specs.Setting.{done, set_one, set_each}
 use Rattle.dt_map.specs.Typemap.{shift, shift_entry}
 use Rattle.dt_map.proofs.Copies.{total-append, total-shift}
 use Rattle.dt_map.proofs.Leading.{done_is_greatest}
 use Rattle.dt_rows.proofs.Joined.{take_further}
 use Rattle.dt_rows.proofs.SettingRows.{set_append, two_pieces}
-use Rattle.dt_unpack.specs.Session.{Session, placed, total_of, rest_of, complete, complete_with, completed, after, buffer_after, IsBetween}
+use Rattle.dt_unpack.specs.Session.{Session, total_of, complete, complete_with, completed, after, buffer_after, IsBetween}
 
 -- where a session is between elements, those before are complete
 none_done : (rep : Rep) (rest : List Entry) (h : ℕ) → AreHeld rep h rest → done rep rest h ≡ 0
@@ -112,6 +112,34 @@ done_rises rep es n m le =
     let here = done_is_greatest rep es n in
     (done_is_greatest rep es m).2 (done rep es n) here.0 (let fits = here.1 in omega (arith, fits, le))
 
+-- of the element at which bytes end, fewer are there than it has
+held_at : (rep : Rep) (es : List Entry) (n : ℕ) → n ≤ total rep es → AreHeld rep (n - total rep (take (done rep es n) es)) (drop (done rep es n) es)
+held_at rep [] n fits = omega (arith, fits)
+held_at rep (e ∷ es) n fits =
+    let size = packed_size rep e.kind in
+    let sum = sum_by-cons (λ (f : Entry). packed_size rep f.kind) e es in
+    let Is : Bool → Type 0 = λ b. (let d = cond b (suc (done rep es (n - size))) 0 in AreHeld rep (n - total rep (take d (e ∷ es))) (drop d (e ∷ es))) in
+    elim (leb_tells size n) [
+      | inl there ↦
+          let d = done rep es (n - size) in
+          let rest = sum_by-cons (λ (f : Entry). packed_size rep f.kind) e (take d es) in
+          let left : (n - size) - total rep (take d es) ≡ n - total rep (e ∷ take d es) = omega (arith, rest, there.1) in
+          subst Is (sym there.0) (subst (λ h. AreHeld rep h (drop d es)) left (held_at rep es (n - size) (omega (arith, fits, sum))))
+      | inr less ↦ subst Is (sym less.0) (omega (arith, less.1))
+    ]
+
+-- the elements that are complete with a piece: those before, and those that it completes
+total_parts : (s : Session) (before rest : List Entry) (b : IsBetween s before rest) (piece : List ℕ)
+    → total s.rep (take (complete_with s piece) s.elements) ≡ total s.rep before + total s.rep (completed s piece)
+total_parts s before rest b piece =
+    let f : ℕ = complete s in
+    let g : ℕ = complete_with s piece in
+    let few = done_rises s.rep s.elements s.given (s.given + length piece) (omega arith) in
+    let there : f + (g - f) ≡ g = omega (arith, few) in
+    let first : take f s.elements ≡ before = ap (λ n. take n s.elements) (done_at s.rep s.elements before rest s.given (length s.held) b.all b.place b.within) ∙ front_of s.elements before rest b.all in
+    ap (total s.rep) (ap (λ n. take n s.elements) (sym there) ∙ sym (two_pieces s.elements f (g - f)) ∙ ap (λ es. es ++ completed s piece) first)
+    ∙ total-append s.rep before (completed s piece)
+
 -- two pieces, one after the other, do what they do joined
 module _ (s : Session) (before rest : List Entry) (b : IsBetween s before rest) (p q : List ℕ) where
   abbrev middle : Session
@@ -143,13 +171,8 @@ module _ (s : Session) (before rest : List Entry) (b : IsBetween s before rest) 
   -- the images of what the first completes are there
   enough : total s.rep (completed s p) ≤ length (s.held ++ p)
   enough =
-      let f : ℕ = complete s in
-      let g : ℕ = complete_with s p in
-      let there : f + (g - f) ≡ g = omega (arith, few) in
       let fits = (done_is_greatest s.rep s.elements (s.given + length p)).1 in
-      let first : take f s.elements ≡ before = ap (λ n. take n s.elements) (done_at s.rep s.elements before rest s.given (length s.held) b.all b.place b.within) ∙ front_of s.elements before rest b.all in
-      let parts : take g s.elements ≡ before ++ completed s p = ap (λ n. take n s.elements) (sym there) ∙ sym (two_pieces s.elements f (g - f)) ∙ ap (λ es. es ++ completed s p) first in
-      let bytes = ap (total s.rep) parts ∙ total-append s.rep before (completed s p) in
+      let bytes = total_parts s before rest b p in
       let place = b.place in
       omega (arith, fits, bytes, place, length-append s.held p)
 
@@ -201,3 +224,24 @@ pub completed_count : (s : Session) (piece : List ℕ) → complete_with s piece
 completed_count s piece =
     let most = (done_is_greatest s.rep s.elements (s.given + length piece)).0 in
     sym (length-take-le (complete_with s piece - complete s) (drop (complete s) s.elements) (omega (arith, most, length-drop (complete s) s.elements)))
+
+-- after any piece that isn't too long, a session is between elements
+pub between_any : (s : Session) (before rest : List Entry) (b : IsBetween s before rest) (piece : List ℕ) → s.given + length piece ≤ total_of s
+    → (front : List Entry) × (back : List Entry) × IsBetween (after s piece) front back
+between_any s before rest b piece fits =
+    let k : ℕ = complete_with s piece in
+    let front = take k s.elements in
+    let back = drop k s.elements in
+    let most = (done_is_greatest s.rep s.elements (s.given + length piece)).1 in
+    let bytes = total_parts s before rest b piece in
+    let place = b.place in
+    let left : length (drop (total s.rep (completed s piece)) (s.held ++ piece)) ≡ (s.given + length piece) - total s.rep front =
+    omega (arith, length-drop (total s.rep (completed s piece)) (s.held ++ piece), length-append s.held piece, bytes, place) in (
+      front,
+      back,
+      record {
+        all = sym (take-append-drop k s.elements);
+        place = omega (arith, most, left);
+        within = subst (λ h. AreHeld s.rep h back) (sym left) (held_at s.rep s.elements (s.given + length piece) fits);
+      },
+    )

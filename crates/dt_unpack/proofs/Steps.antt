@@ -1,9 +1,8 @@
 -- What rows that a walk names next do to a session.
-use Rattle.std.specs.Prelude.{◌≡◌, ℕ, suc, ◌+◌, ◌-◌, ◌*◌, ◌/◌, ◌<◌, ◌≤◌, ℤ, pos, ◌+ℤ◌, ◌*ℤ◌, List, [], ◌∷◌, ◌++◌, map, take, drop, length}
+use Rattle.std.specs.Prelude.{◌≡◌, ℕ, suc, ◌+◌, ◌*◌, ◌<◌, ◌≤◌, ℤ, pos, List, [], ◌∷◌, ◌++◌, map, take, drop, length}
 use Rattle.std.specs.List.{flat_map}
-use Rattle.std.proofs.Common.{true, inl, inr, refl, sym, ap, subst, ◌∙◌, arith, append_assoc, append-nil, length-append, length-drop}
+use Rattle.std.proofs.Common.{true, inl, inr, refl, sym, ap, subst, ◌∙◌, arith, length-append}
 use Rattle.std.proofs.lemmas.Bool.{and_parts, cases_lt}
-use Rattle.std.proofs.lemmas.Grind.{flat_map-append}
 use Rattle.std.proofs.lemmas.List.{length-map, map-append}
 use Rattle.std.proofs.lemmas.List.Folds.{list_all-append}
 use Rattle.std.proofs.lemmas.List.Sums.{sum_by-cons}
@@ -23,13 +22,12 @@ use Rattle.dt_map.specs.Setting.{set_each}
 use Rattle.dt_map.specs.Typemap.{shift}
 use Rattle.dt_map.proofs.Copies.{total-append, total-shift}
 use Rattle.dt_map.proofs.Placings.{shift-append}
-use Rattle.dt_offsets.specs.Offsets.{below, row_offsets}
+use Rattle.dt_offsets.specs.Offsets.{row_offsets}
 use Rattle.dt_offsets.proofs.Reaches.{count-row}
 use Rattle.dt_rows.specs.declared.rows.Rows.{Rows}
-use Rattle.dt_rows.specs.Rows.{element_at, adjacent, elements_of_rows, AreRows, IsRun, bytes_in}
-use Rattle.dt_unpack.specs.Session.{Session, placed, total_of, rest_of, complete, completed, after, buffer_after, walk_of, IsBetween, IsOpen}
-use Rattle.dt_unpack.proofs.Opening.{none_held}
-use Rattle.dt_unpack.proofs.Pieces.{done_at, front_of, back_of, between_after, completes, session_after, set_completed, set_front}
+use Rattle.dt_rows.specs.Rows.{element_at, adjacent, elements_of_rows, AreRows}
+use Rattle.dt_unpack.specs.Session.{Session, placed, complete, after, buffer_after, walk_of, IsBetween, IsOpen}
+use Rattle.dt_unpack.proofs.Pieces.{done_at, front_of, between_after, completes, session_after, set_completed, set_front}
 
 -- elements of one kind at places, before others: of the first, fewer bytes than it has may be held
 held_of_kind : (rep : Rep) (kind : Kind) (h : ℕ) (places : List ℤ) (after : List Entry) → 0 < length places → h < packed_size rep kind → AreHeld rep h (map (element_at kind) places ++ after)

@@ -1,5 +1,5 @@
 -- Unpack sessions: packed bytes (MPI 4.1, section 5.2) that are given in pieces.
-use Rattle.std.specs.Prelude.{◌≡◌, ℕ, ◌+◌, ◌-◌, ◌<◌, ◌≤◌, ℤ, pos, IsTrue, List, [], ◌++◌, take, drop, length}
+use Rattle.std.specs.Prelude.{◌≡◌, ℕ, ◌+◌, ◌-◌, ◌≤◌, ℤ, pos, IsTrue, List, [], ◌++◌, take, drop, length}
 use Rattle.dt_cursor.specs.Search.{AreHeld}
 use Rattle.dt_cursor.specs.Walk.{Walk}
 use Rattle.dt_kinds.specs.declared.kind.Rep.{Rep}

@@ -1,8 +1,7 @@
-use Rattle.std.proofs.Common.{◌≡◌, ◌+◌, ◌-◌, ◌<◌, ◌≤◌, ◌∷◌, [], ◌++◌, List, ℕ, take, drop, length, sym, ap, subst, ◌∙◌, arith}
+use Rattle.std.proofs.Common.{◌≡◌, ◌+◌, ◌++◌, take, length, sym, ap, subst, ◌∙◌, arith}
 use Rattle.std.proofs.lemmas.List.{take_all, take_more}
-use Rattle.dt_map.specs.declared.entry.Entry.{Entry}
 use Rattle.dt_rows.proofs.SettingRows.{rest_of, two_pieces}
-use Rattle.dt_unpack.specs.Session.{Session, IsBetween, after, buffer_after, complete, complete_with, completed}
+use Rattle.dt_unpack.specs.Session.{Session, IsBetween, after, complete}
 use Rattle.dt_unpack.proofs.Pieces.{more_given, completes_more, completed_count}
 use Rattle.dt_unpack.proofs.Steps.{number_of}
 use Rattle.dt_unpack.proofs.session.UnpackSession.give.Goals as goal

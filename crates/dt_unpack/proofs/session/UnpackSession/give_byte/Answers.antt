@@ -1,5 +1,5 @@
 use mir.Val.{to_z, of_z}
-use Rattle.std.proofs.Common.{◌≡◌, ◌+◌, ◌<◌, ◌≤◌, [], ◌∷◌, ◌++◌, List, ℕ, pos, ◌+ℤ◌, drop, length, SFits, refl, sym, ap, subst, ◌∙◌, arith, rules, append-nil, length-append}
+use Rattle.std.proofs.Common.{◌≡◌, ◌+◌, ◌<◌, [], ◌∷◌, ◌++◌, pos, ◌+ℤ◌, drop, length, SFits, sym, ap, subst, ◌∙◌, arith, rules, append-nil, length-append}
 use Rattle.std.proofs.lemmas.Int.{to_z-of_z}
 use Rattle.std.proofs.lemmas.List.{drop_all}
 use Rattle.std.specs.Int.{w64}
