@@ -1,8 +1,8 @@
 -- The round that comes next.
 use mir.Syntax.{w64}
 use mir.Val.{to_z, of_z}
-use Rattle.std.specs.Prelude.{◌≡◌, Some, ℕ, suc, ◌+◌, ◌*◌, ◌^◌, ◌<◌, ◌≤◌, ◌⊎◌, ℤ, ◌+ℤ◌, ◌*ℤ◌, pos, nat_abs, List, [], ◌∷◌, ◌++◌, map, length, drop, get_or, slice_get}
-use Rattle.std.proofs.Common.{refl, sym, ap, subst, ◌∙◌, arith, inl, inr, append_assoc, drop-cons}
+use Rattle.std.specs.Prelude.{◌≡◌, Some, ℕ, suc, ◌+◌, ◌*◌, ◌^◌, ◌<◌, ◌≤◌, ◌⊎◌, ℤ, ◌+ℤ◌, ◌*ℤ◌, pos, nat_abs, List, [], ◌∷◌, ◌++◌, map, length, drop, slice_get}
+use Rattle.std.proofs.Common.{refl, sym, ap, ◌∙◌, arith, inl, inr, append_assoc, drop-cons}
 use Rattle.std.proofs.lemmas.Int.{to_z-of_z, fits_signed_from_abs}
 use Rattle.std.proofs.lemmas.List.{drop_all}
 use Rattle.std.proofs.lemmas.Grind.{flat_map-append}
@@ -259,8 +259,8 @@ product_some a b some more = let least : 1 * b ≤ a * b = mul-le-mul_right b (o
 pub product_none : (a b : ℕ) → (0 < a × (b ≤ 0)) ⊎ (a ≤ 0) → a * b ≡ 0
 product_none a b none =
     elim none [
-    inl h ↦ (let zero : b ≡ 0 = omega (arith, h.1) in let gone : a * 0 ≡ 0 = omega arith in ap (λ n. a * n) zero ∙ gone)
-    | inr h ↦ (let zero : a ≡ 0 = omega (arith, h) in let gone : 0 * b ≡ 0 = omega arith in ap (λ n. n * b) zero ∙ gone)
+      | inl h ↦ (let zero : b ≡ 0 = omega (arith, h.1) in let gone : a * 0 ≡ 0 = omega arith in ap (λ n. a * n) zero ∙ gone)
+      | inr h ↦ (let zero : a ≡ 0 = omega (arith, h) in let gone : 0 * b ≡ 0 = omega arith in ap (λ n. n * b) zero ∙ gone)
     ]
 
 pub seq_here : (at : ℕ) (body : Body) (number next : ℕ) → head_of at body ≡ variants.Seq number next → (parts : Parts) × (body ≡ seq parts)

@@ -42,6 +42,13 @@ impl Frames {
         }
     }
 
+    /// How many levels there are.
+    pub fn len(&self) -> usize
+        ensures { result ≡ length self.now }
+    {
+        self.levels.len()
+    }
+
     /// One level further in.
     pub(crate) fn push(&mut self, frame: Frame)
         requires { length self.old < 130 }

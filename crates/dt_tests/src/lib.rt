@@ -1,4 +1,4 @@
-//! The tests of the library, one module a topic. Their expected values come from MPI 4.1 and from this project's
+//! The tests of datatypes and of what they place, one module a topic. Their expected values come from MPI 4.1 and from this project's
 //! documents, never from a run of the code.
 #![tactic(auto)]
 
@@ -17,8 +17,6 @@ mod flats;
 #[cfg(test)]
 mod kinds;
 #[cfg(test)]
-mod lines;
-#[cfg(test)]
 mod made;
 #[cfg(test)]
 mod placements;
@@ -26,13 +24,3 @@ mod placements;
 mod ranges;
 #[cfg(test)]
 mod registries;
-#[cfg(test)]
-mod replies;
-#[cfg(test)]
-mod sinks;
-#[cfg(test)]
-mod sources;
-#[cfg(test)]
-mod spelling;
-#[cfg(test)]
-mod typemaps;

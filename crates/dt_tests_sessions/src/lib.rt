@@ -5,6 +5,10 @@
 #[cfg(test)]
 mod counts;
 #[cfg(test)]
+mod cursors;
+#[cfg(test)]
+mod finding;
+#[cfg(test)]
 mod images;
 #[cfg(test)]
 mod overlapping;

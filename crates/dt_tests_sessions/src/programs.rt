@@ -1,4 +1,8 @@
 //! Programs of datatypes, printed as tables of their instructions.
+ghost use Rattle.std.specs.Prelude.{pos, IfOk};
+ghost use Rattle.dt_layout.specs.Program.{StandsFor};
+ghost use Rattle.dt_map.specs.Elements.{elements};
+ghost use Rattle.dt_type.specs.Datatype.{typemap_of};
 
 use dt_array::{darray, subarray};
 use dt_ctor::{
@@ -21,7 +25,9 @@ const MIDDLE: i64 = 1 << 58;
 const BYTES_MAX: u128 = 1 << 62;
 
 /// The program of an operation whose elements don't lie too far.
-fn program_of(alloc: Global, ty: &Datatype, count: u32) -> Result<Program, Fail> {
+pub(crate) fn program_of(alloc: Global, ty: &Datatype, count: u32) -> Result<Program, Fail>
+    ensures { IfOk result (λ program. StandsFor program (elements (typemap_of ty.now) count (pos 0))) }
+{
     let _bounds = ty.bounds();
     if !span_inside(ty, count, MIDDLE, ROOM) {
         return Err(Fail::from("elements too far"));
@@ -88,11 +94,11 @@ fn expect(alloc: Global, ty: &Datatype, count: u32, expected: &str) -> Result<()
     Err(Fail::from(format!(in alloc; "not {text}")?.as_str()))
 }
 
-fn named(alloc: Global, kind: Kind) -> Result<Datatype, Fail> {
+pub(crate) fn named(alloc: Global, kind: Kind) -> Result<Datatype, Fail> {
     Ok(Datatype::named(alloc, kind)?)
 }
 
-fn part(len: i32, disp: i64, old: &Datatype) -> Result<Part, Fail> {
+pub(crate) fn part(len: i32, disp: i64, old: &Datatype) -> Result<Part, Fail> {
     Ok(PartOf {
         len,
         disp,
@@ -308,7 +314,7 @@ fn spots_stay_as_they_are(rt: HostRuntime) -> Result<(), Fail> {
 }
 
 /// An int at 0 and so many bytes from 4 on.
-fn int_and_bytes(alloc: Global, bytes: i32) -> Result<Vec<Part>, Fail> {
+pub(crate) fn int_and_bytes(alloc: Global, bytes: i32) -> Result<Vec<Part>, Fail> {
     let mut parts = Vec::new(alloc);
     parts.push(part(1, 0, &named(alloc, Kind::Int)?)?)?;
     parts.push(part(bytes, 4, &named(alloc, Kind::Byte)?)?)?;
@@ -360,7 +366,7 @@ fn what_has_no_elements_vanishes(rt: HostRuntime) -> Result<(), Fail> {
 }
 
 /// A datatype 64 levels deep, each of which places the one inside by two rows, the second of them empty.
-fn nest(alloc: Global) -> Result<Datatype, Fail> {
+pub(crate) fn nest(alloc: Global) -> Result<Datatype, Fail> {
     let rows = [AddrBlock { len: 1, disp: 0 }, AddrBlock { len: 0, disp: 8 }];
     let mut old = named(alloc, Kind::Int)?;
     for _level in 2..=64 {

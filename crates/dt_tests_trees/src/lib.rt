@@ -5,8 +5,6 @@
 #[cfg(test)]
 mod classes;
 #[cfg(test)]
-mod least;
-#[cfg(test)]
 mod limits;
 #[cfg(test)]
 mod nodes;

@@ -1,10 +1,10 @@
 use Rattle.std.specs.Prelude.{◌⊎◌}
-use Rattle.std.proofs.Common.{◌≡◌, ◌+◌, ◌*◌, ◌<◌, ◌≤◌, ℕ, Some, length, slice_get, arith, ap, subst, ◌∙◌, sym, inl, inr}
+use Rattle.std.proofs.Common.{◌≡◌, ◌*◌, ◌<◌, ◌≤◌, Some, arith, ap, subst, ◌∙◌, sym}
 use Rattle.dt_cursor.specs.Onward.{AreParts, HaveNoElements}
 use Rattle.dt_cursor.proofs.Halfway.{part_passed}
 use Rattle.dt_cursor.proofs.NextRounds.{loop_part, parts_within, part_skipped, none_skipped, parts_end, product_some, product_none}
 use Rattle.dt_kinds.specs.declared.kind.Rep.TheVariants.{Native}
-use Rattle.dt_layout.specs.Body.{Parts, size, sizes_of}
+use Rattle.dt_layout.specs.Body.{size}
 use Rattle.dt_layout.specs.declared.instr.Sizes.{Sizes}
 use Rattle.dt_cursor.proofs.onward.some_part.Goals as goal
 
