@@ -2,20 +2,13 @@
 use Rattle.std.specs.Prelude.{◌≡◌, ℕ, ◌<◌, ◌≤◌, ◌⊎◌, ℤ, ◌+ℤ◌, ◌*ℤ◌, pos, List, [], ◌∷◌, map}
 use Rattle.std.specs.List.{flat_map}
 use Rattle.std.proofs.Common.{refl, sym, ap, subst, ◌∙◌, arith, inl, inr, append-nil}
-use Rattle.std.proofs.Math.IntN.{zero-*ℤ}
-use Rattle.std.proofs.lemmas.Int.{ints}
 use Rattle.dt_cursor.specs.declared.level.Rest.{Rest}
 use Rattle.dt_cursor.specs.Spread.{IsCut, spread}
+use Rattle.dt_cursor.proofs.Named.{no_step}
 use Rattle.dt_kinds.specs.declared.kind.Kind.{Kind}
 use Rattle.dt_kinds.specs.Kind.{native_size}
 use Rattle.dt_offsets.specs.Offsets.{row_offsets}
 use Rattle.dt_rows.specs.Rows.{element_at}
-
-no_step : (x y : ℤ) → x +ℤ (pos 0 *ℤ y) ≡ x
-no_step x y = ap (λ z. x +ℤ z) (zero-*ℤ y) ∙ alone x
-  where
-    alone : (z : ℤ) → z +ℤ pos 0 ≡ z
-    alone z = omega (arith, ints)
 
 -- one row, whatever the way to the next
 one_row_is : (kind : Kind) (x : ℤ) (jump : ℤ) (n : ℕ) (step : ℤ) → spread kind x 1 jump n step ≡ map (element_at kind) (row_offsets x n step)

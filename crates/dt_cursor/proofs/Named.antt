@@ -70,7 +70,7 @@ popped (Some f) old new some none = ap (drop 1) some
 abbrev pub part_rows : Kind → ℤ → ℕ → ℕ → Rows
 part_rows kind x skip bytes = record { run = record { kind = kind; disp = x; elements = 1; skip = skip; bytes = bytes }; rows = 1; step = pos 0 }
 
-no_step : (x y : ℤ) → x +ℤ (pos 0 *ℤ y) ≡ x
+pub no_step : (x y : ℤ) → x +ℤ (pos 0 *ℤ y) ≡ x
 no_step x y = omega (arith, ints)
 
 pub elements_of_part : (kind : Kind) (x : ℤ) (skip bytes : ℕ) → elements_of_rows (part_rows kind x skip bytes) ≡ entry_at kind x ∷ []
