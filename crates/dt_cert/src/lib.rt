@@ -2,6 +2,7 @@
 #![tactic(auto)]
 
 mod classes;
+pub mod judging;
 pub mod laws;
 mod lines;
 pub mod writing;
