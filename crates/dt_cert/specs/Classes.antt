@@ -3,6 +3,7 @@ use Rattle.std.specs.List.{All}
 use Rattle.dt_alike.specs.First.{first_alike}
 use Rattle.dt_map.specs.declared.entry.Entry.{Entry}
 use Rattle.dt_normal.specs.declared.low.Low.{Low}
+use Rattle.dt_check.specs.Classes.{of_classes}
 use Rattle.dt_check.specs.Failing.{IsBefore}
 use Rattle.dt_check.specs.Members.{table_of}
 use Rattle.dt_cert.specs.Certificate.{Version, BySegments, ByClasses}
@@ -23,4 +24,4 @@ AreRising (a ∷ lows) = All (IsEarlier a) lows × AreRising lows
 -- what a list of values says of a segment: its own value, or that of its class
 abbrev pub value_in : Version → List Entry → List Low → ℕ → ℕ → ℕ
 value_in BySegments m values start len = table_of values start len
-value_in ByClasses m values start len = table_of values (first_alike m start len) len
+value_in ByClasses m values start len = of_classes m (table_of values) start len

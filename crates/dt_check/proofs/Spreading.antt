@@ -1,12 +1,10 @@
 -- values spread over the segments of classes
-use Rattle.std.proofs.Common.{◌≡◌, ◌⊎◌, inl, inr, ℕ, zero, suc, ◌+◌, ◌-◌, ◌≤◌, ◌<◌, List, [], ◌∷◌, ◌++◌, length, get_or, refl, sym, ap, ◌∙◌, subst, arith, below_more, length-append}
+use Rattle.std.proofs.Common.{◌≡◌, inl, inr, ℕ, suc, ◌+◌, ◌-◌, ◌<◌, List, [], ◌∷◌, ◌++◌, length, get_or, sym, ap, ◌∙◌, subst, arith, below_more, length-append}
 use Rattle.std.specs.Global.{Vec}
 use Rattle.std.proofs.lemmas.Bool.{cases_lt}
 use Rattle.std.proofs.lemmas.List.{get_or_append_left, get_or_push, get_or_default}
 use Rattle.dt_alike.specs.First.{first_alike}
 use Rattle.dt_map.specs.declared.entry.Entry.{Entry}
-use Rattle.dt_normal.specs.Table.{IsSegment}
-use Rattle.dt_check.specs.Classes.{of_classes}
 use Rattle.dt_check.specs.Rows.{row_at, table_in, AreRows}
 use Rattle.dt_check.specs.Spread.{IsSpread, AreSpread}
 use Rattle.dt_check.proofs.Rowed.{row_read, rows_more, table_before, table_last}

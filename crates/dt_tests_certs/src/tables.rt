@@ -175,10 +175,7 @@ fn blocks_in_a_group(rt: HostRuntime) -> Result<(), Fail> {
 }
 
 /// The first segment at which a table over three ints fails, where each segment has the value of its class.
-fn failing_class(
-    alloc: Global,
-    members: &[(u32, u32, u64)],
-) -> Result<Option<Segment>, NoMemory> {
+fn failing_class(alloc: Global, members: &[(u32, u32, u64)]) -> Result<Option<Segment>, NoMemory> {
     let Some(map) = ints_at(alloc, &EVEN)? else {
         return Ok(None);
     };

@@ -1,4 +1,4 @@
-use Rattle.std.proofs.Common.{◌≡◌, ◌+◌, ◌<◌, ap, ◌∙◌, sym, arith, length, ℕ}
+use Rattle.std.proofs.Common.{◌+◌, ◌<◌, ap, ◌∙◌, sym, arith, length, ℕ}
 use Rattle.std.specs.Global.{Vec}
 use Rattle.dt_check.specs.Spread.{IsSpread}
 use Rattle.dt_check.proofs.Rowed.{row_read}
