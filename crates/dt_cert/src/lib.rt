@@ -7,4 +7,5 @@ pub mod laws;
 mod lines;
 pub mod writing;
 
+pub use judging::{Certificate, Failing, Version, judge};
 pub use writing::write_cert;
