@@ -1,5 +1,5 @@
 -- what a tree places, compared with entries
-use Rattle.std.proofs.Common.{◌≡◌, ◌⊎◌, inl, inr, ℕ, zero, suc, ◌+◌, ◌-◌, ◌≤◌, ◌<◌, ◌≢◌, min, ℤ, ◌+ℤ◌, ◌-ℤ◌, nat_abs, Option, Some, None, IsTrue, ◌↔◌, Bool, true, false, List, [], ◌∷◌, length, get_or, slice_get, map, SFits, to_z, of_z, refl, sym, ap, ◌∙◌, subst, arith, below_more}
+use Rattle.std.proofs.Common.{◌≡◌, inl, inr, ℕ, ◌+◌, ◌≤◌, ◌<◌, ℤ, ◌+ℤ◌, ◌-ℤ◌, nat_abs, Option, Some, None, IsTrue, ◌↔◌, Bool, List, [], ◌∷◌, length, get_or, slice_get, SFits, to_z, of_z, refl, sym, ap, ◌∙◌, subst, arith, below_more}
 use mir.Syntax.{w64}
 use Rattle.std.specs.Option.{option_map}
 use Rattle.std.proofs.lemmas.Bool.{cases_lt}
@@ -14,8 +14,6 @@ use Rattle.dt_tree.specs.Place.{place_of}
 use Rattle.dt_tree.specs.Rule.{FollowsRule}
 use Rattle.dt_tree.specs.Tree.{Tree, flat}
 use Rattle.dt_tree.proofs.Entries.{short_entry}
-use Rattle.dt_normal.specs.declared.low.Low.{Low}
-use Rattle.dt_check.specs.Members.{names, table_of}
 use Rattle.dt_cert.specs.Judged.{IsFirstDifference}
 
 found : (o : Option Entry) (place : Place) → option_map place_of o ≡ Some place → (e : Entry) × (o ≡ Some e) × (place ≡ place_of e)

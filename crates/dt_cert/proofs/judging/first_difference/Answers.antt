@@ -1,4 +1,4 @@
-use Rattle.std.proofs.Common.{◌≡◌, ap, ◌∙◌, arith, length, subst, ℤ}
+use Rattle.std.proofs.Common.{arith, subst, ℤ}
 use Rattle.dt_map.specs.Typemap.{shift}
 use Rattle.dt_map.proofs.Summaries.{length-shift}
 use Rattle.dt_tree.specs.Node.{tree_of}

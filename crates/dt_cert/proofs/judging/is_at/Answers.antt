@@ -1,7 +1,5 @@
-use Rattle.std.proofs.Common.{◌≡◌, ◌∙◌, sym, ap, subst}
-use Rattle.dt_tree.specs.declared.node.Node.{Node}
+use Rattle.std.proofs.Common.{◌∙◌, sym}
 use Rattle.dt_tree.specs.Node.{tree_of}
-use Rattle.dt_tree.specs.Rule.{FollowsRule}
 use Rattle.dt_tree.specs.Tree.{flat}
 use Rattle.dt_cert.proofs.Comparing.{base_again, place_near, entry_found}
 use Rattle.dt_cert.proofs.judging.is_at.Goals as goal
