@@ -65,7 +65,15 @@ fn certificates_that_hold(rt: HostRuntime) -> Result<(), Fail> {
     let alloc = rt.alloc();
     assert!(rt; is_judged(alloc, Version::Segments, 4, &WHOLE, Ok(4))?);
     assert!(rt; is_judged(alloc, Version::Segments, 4, &[(0, 1, 1), (0, 3, 4)], Ok(4))?);
-    assert!(rt; is_judged(alloc, Version::Classes, 4, &[(0, 1, 1), (0, 2, 4), (0, 3, 4)], Ok(4))?);
+    assert!(rt;
+        is_judged(
+            alloc,
+            Version::Classes,
+            4,
+            &[(0, 1, 1), (0, 2, 4), (0, 3, 4)],
+            Ok(4)
+        )?
+    );
     Ok(())
 }
 
@@ -76,7 +84,15 @@ fn tables_that_fail(rt: HostRuntime) -> Result<(), Fail> {
     let pair = Err(Failing::LowFails { from: 0, to: 2 });
     let whole = Err(Failing::LowFails { from: 0, to: 3 });
     let root = Err(Failing::RootBelow { low: 0, cost: 4 });
-    assert!(rt; is_judged(alloc, Version::Classes, 4, &[(0, 1, 1), (0, 2, 5), (0, 3, 4)], pair)?);
+    assert!(rt;
+        is_judged(
+            alloc,
+            Version::Classes,
+            4,
+            &[(0, 1, 1), (0, 2, 5), (0, 3, 4)],
+            pair
+        )?
+    );
     assert!(rt; is_judged(alloc, Version::Segments, 4, &[(0, 3, 4)], whole)?);
     assert!(rt; is_judged(alloc, Version::Segments, 4, &[], root)?);
     Ok(())
