@@ -1,3 +1,4 @@
+pub mod Comparing
 pub mod Composing
 pub mod Joins
 pub mod Listed

@@ -4,3 +4,5 @@ pub mod Laws
 pub mod Shown
 pub mod Text
 pub mod Written
+pub mod Judged
+pub mod Read

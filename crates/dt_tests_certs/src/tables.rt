@@ -13,7 +13,7 @@ use std::alloc::Global;
 use std::test::Fail;
 
 /// Ints at some places; none where a place is out of range.
-fn ints_at(alloc: Global, places: &[i64]) -> Result<Option<FlatMap>, NoMemory> {
+pub(crate) fn ints_at(alloc: Global, places: &[i64]) -> Result<Option<FlatMap>, NoMemory> {
     let mut entries = Vec::with_capacity(alloc, places.len())?;
     for disp in places {
         entries.push(Entry {
@@ -25,7 +25,7 @@ fn ints_at(alloc: Global, places: &[i64]) -> Result<Option<FlatMap>, NoMemory> {
 }
 
 /// A table's list, of the members that name a segment.
-fn table(
+pub(crate) fn table(
     alloc: Global,
     classes: &Classes,
     members: &[(u32, u32, u64)],
@@ -63,10 +63,10 @@ fn failing_at(
 }
 
 /// Three ints, 8 bytes apart.
-const EVEN: [i64; 3] = [0, 8, 16];
+pub(crate) const EVEN: [i64; 3] = [0, 8, 16];
 
 /// What the least trees of all their segments cost.
-const WHOLE: [(u32, u32, u64); 6] = [
+pub(crate) const WHOLE: [(u32, u32, u64); 6] = [
     (0, 1, 1),
     (1, 2, 1),
     (2, 3, 1),
