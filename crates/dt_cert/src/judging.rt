@@ -183,7 +183,7 @@ fn root(c: &Certificate) -> u64
 
 /// Tests the four rules of a certificate in their order: the tree stands for the typemap from the base on; it costs what is stated; the
 /// table of the values is valid, by additions and comparisons of these values alone; and it says of the whole typemap no less than the
-/// cost. So the tree is least (law `shown_is_least`). The answer is the cost, or the first rule that is broken.
+/// cost. So the tree is least (law `holds_is_least`). The answer is the cost, or the first rule that is broken.
 pub fn judge(alloc: Global, c: &Certificate) -> Result<u64, Failing>
     requires few { length c.now.map.entries ≤ 1024 }
     requires members { All (IsMember c.now.map.entries) c.now.values.items }
