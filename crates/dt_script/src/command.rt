@@ -62,6 +62,12 @@ pub enum Command {
         buffer: Name,
         origin: i64,
     },
+    /// `elements REP BYTES TYPE`
+    Elements {
+        rep: Rep,
+        bytes: i64,
+        ty: Name,
+    },
     /// `weights LEAF VECTOR INDEX PLACE GROUP PART`
     Weights {
         leaf: i32,
