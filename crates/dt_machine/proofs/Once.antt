@@ -1,17 +1,18 @@
 -- A step is a function, and so are the answers to an input.
-use Rattle.std.proofs.Common.{◌≡◌, ℕ, ◌<◌, ℤ, pos, false, cond, List, [], ◌∷◌, length, Option, Some, None, inl, inr, refl, sym, ap, subst, ◌∙◌, arith}
+use Rattle.std.proofs.Common.{◌≡◌, ℕ, ◌<◌, ℤ, pos, nat_abs, false, cond, List, [], ◌∷◌, length, Option, Some, None, inl, inr, refl, sym, ap, subst, ◌∙◌, arith}
 use Rattle.std.proofs.lemmas.Bool.{cases_lt}
 use Rattle.std.specs.List.{AllByRecursion}
 use Rattle.std.specs.Option.{IsSomeAnd}
 use Rattle.dt_map.specs.Bounds.{bounds_of}
+use Rattle.dt_map.specs.Counts.{received_elements, received_copies}
 use Rattle.dt_map.specs.Packed.{packed}
 use Rattle.dt_reply.specs.declared.refusal.Refusal.{Refusal}
 use Rattle.dt_reply.specs.declared.reply.Reply.{Reply}
-use Rattle.dt_reply.specs.declared.reply.Reply.TheVariants.{Done, Packed, Shown, Told, Listed, Described, Contained, Refused}
+use Rattle.dt_reply.specs.declared.reply.Reply.TheVariants.{Done, Packed, Shown, Told, Listed, Described, Contained, Counted, Refused}
 use Rattle.dt_reply.specs.Refusal.{number_of}
 use Rattle.dt_reply.proofs.Numbers.{one_refusal}
 use Rattle.dt_script.specs.declared.command.Command.{Command}
-use Rattle.dt_script.specs.declared.command.Command.TheVariants.{Define, Child, Commit, Free, Info, Map, Envelope, Contents, Buffer, Show, Bytes, Weights, Normalise, Rebuild}
+use Rattle.dt_script.specs.declared.command.Command.TheVariants.{Define, Child, Commit, Free, Info, Map, Envelope, Contents, Buffer, Show, Bytes, Elements, Weights, Normalise, Rebuild}
 use Rattle.dt_script.specs.Line.{Meaning, Blank, Fault, Does, IsLine}
 use Rattle.dt_script.specs.Lines.{script_lines}
 use Rattle.dt_script.specs.Name.{begins_with_mpi}
@@ -95,6 +96,10 @@ performs_one (Bytes rep count ty buffer origin) s t u reply other none (kept, he
     let one : held ≡ held2 = cc in
     let text = ap (λ (x : Kept). Packed (packed rep (elements_of x count origin) held)) same ∙ ap (λ (x : List ℕ). Packed (packed rep (elements_of kept2 count origin) x)) one in
     (c ∙ (text ∙ sym g), d ∙ sym h)
+performs_one (Elements rep bytes ty) s t u reply other none p q =
+    by_one (type_of s ty)
+    (λ kept. Counted (received_elements rep (typemap_of kept.ty) (nat_abs bytes)) (received_copies rep (typemap_of kept.ty) (nat_abs bytes))) (λ _. with_count s) reply
+    other t u p q
 performs_one (Weights leaf vector index place group part) s t u reply other none p q = (p.0 ∙ sym q.0, p.1 ∙ sym q.1)
 performs_one (Normalise ty) s t u reply other none (kept, base, tree, a, b, c, d) (kept2, base2, tree2, e, f, g, h) =
     let few = no_choice s.weights (entries_of kept.ty) base tree (λ some. none (some_and (type_of s ty) HasEntries kept a some)) b in

@@ -9,7 +9,7 @@ use Rattle.dt_reply.specs.declared.refusal.Refusal.{Refusal}
 use Rattle.dt_reply.specs.declared.refusal.Refusal.TheVariants.{UnknownName, NameTaken, UnsupportedKind, BasicType, NamedType, NoSuchChild, BadArgument, Overflow, TooDeep, TooHeavy, TooManyNames, TooManyEntries, Outside, TooLarge}
 use Rattle.dt_reply.specs.Refusal.{number_of}
 use Rattle.dt_script.specs.declared.command.Command.{Command}
-use Rattle.dt_script.specs.declared.command.Command.TheVariants.{Define, Child, Commit, Free, Info, Map, Envelope, Contents, Buffer, Show, Bytes, Weights, Normalise, Rebuild}
+use Rattle.dt_script.specs.declared.command.Command.TheVariants.{Define, Child, Commit, Free, Info, Map, Envelope, Contents, Buffer, Show, Bytes, Elements, Weights, Normalise, Rebuild}
 use Rattle.dt_script.specs.declared.command.Fill.{Fill}
 use Rattle.dt_script.specs.declared.command.Fill.TheVariants.{Zero, Count, Hex}
 use Rattle.dt_script.specs.Olds.{any_old}
@@ -101,6 +101,7 @@ conditions s (Bytes rep count ty buffer origin) =
     ∷ Outside when IsOutside s ty buffer count origin
     ∷ TooLarge when IsSomeAnd (type_of s ty) (λ kept. MOST_PACKED < total rep (elements_of kept count origin))
     ∷ []
+conditions s (Elements rep bytes ty) = type_row s ty (BadArgument when IsTrue (int_lt bytes (pos 0)) ∷ [])
 conditions s (Weights leaf vector index place group part) = BadArgument when (¬ AreWeights leaf vector index place group part) ∷ []
 conditions s (Normalise ty) =
     type_row s ty (TooManyEntries when IsSomeAnd (type_of s ty) (λ kept. MOST_SOUGHT < length (entries_of kept.ty)) ∷ [])

@@ -1,13 +1,14 @@
 -- What a line does to the state, and what is replied.
-use Rattle.std.specs.Prelude.{◌≡◌, ℕ, ℤ, false, if◌then◌else◌, List, Option, Some, ◌⊎◌}
+use Rattle.std.specs.Prelude.{◌≡◌, ℕ, ℤ, nat_abs, false, if◌then◌else◌, List, Option, Some, ◌⊎◌}
 use Rattle.dt_map.specs.Bounds.{bounds_of}
+use Rattle.dt_map.specs.Counts.{received_elements, received_copies}
 use Rattle.dt_map.specs.Packed.{packed}
 use Rattle.dt_reply.specs.declared.refusal.Refusal.{Refusal}
 use Rattle.dt_reply.specs.declared.refusal.Refusal.TheVariants.{Syntax}
 use Rattle.dt_reply.specs.declared.reply.Reply.{Reply}
-use Rattle.dt_reply.specs.declared.reply.Reply.TheVariants.{Silent, Done, Packed, Shown, Told, Listed, Described, Contained, Refused}
+use Rattle.dt_reply.specs.declared.reply.Reply.TheVariants.{Silent, Done, Packed, Shown, Told, Listed, Described, Contained, Counted, Refused}
 use Rattle.dt_script.specs.declared.command.Command.{Command}
-use Rattle.dt_script.specs.declared.command.Command.TheVariants.{Define, Child, Commit, Free, Info, Map, Envelope, Contents, Buffer, Show, Bytes, Weights, Normalise, Rebuild}
+use Rattle.dt_script.specs.declared.command.Command.TheVariants.{Define, Child, Commit, Free, Info, Map, Envelope, Contents, Buffer, Show, Bytes, Elements, Weights, Normalise, Rebuild}
 use Rattle.dt_script.specs.Name.{begins_with_mpi}
 use Rattle.dt_script.specs.Line.{Meaning, Blank, Fault, Does, IsLine}
 use Rattle.dt_type.specs.declared.datatype.Seen.{Seen}
@@ -59,6 +60,11 @@ Performs (Show buffer) s reply t = (bytes : List ℕ) × (buffer_of s buffer ≡
 Performs (Bytes rep count ty buffer origin) s reply t =
     (kept : Kept) × (bytes : List ℕ) × (type_of s ty ≡ Some kept) × (buffer_of s buffer ≡ Some bytes)
     × (reply ≡ Packed (packed rep (elements_of kept count origin) bytes)) × (t ≡ with_count s)
+-- the elements and the copies among so many received bytes are told
+Performs (Elements rep bytes ty) s reply t =
+    (kept : Kept) × (type_of s ty ≡ Some kept)
+    × (reply ≡ Counted (received_elements rep (typemap_of kept.ty) (nat_abs bytes)) (received_copies rep (typemap_of kept.ty) (nat_abs bytes)))
+    × (t ≡ with_count s)
 -- trees are weighed so from now on
 Performs (Weights leaf vector index place group part) s reply t =
     (reply ≡ Done) × (t ≡ with_count (with_weights s (weights_by leaf vector index place group part)))

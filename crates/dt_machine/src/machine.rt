@@ -223,6 +223,7 @@ impl Machine {
                 buffer,
                 origin,
             } => self.bytes(*rep, *count, ty, buffer, *origin),
+            Command::Elements { rep, bytes, ty } => self.counts(*rep, *bytes, ty),
             Command::Weights {
                 leaf,
                 vector,
