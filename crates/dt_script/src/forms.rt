@@ -3,7 +3,7 @@ ghost use Rattle.std.specs.Prelude.{◌≡◌};
 ghost use Rattle.dt_script.specs.Words.{words_of};
 ghost use Rattle.dt_script.specs.Reading.{Gives};
 ghost use Rattle.dt_script.specs.Form.{behind, one_of};
-ghost use Rattle.dt_script.specs.Forms.{hex, fill_of, define, child, buffer, weights, rebuild, tree_forms, buffer_forms, question_forms, command_of};
+ghost use Rattle.dt_script.specs.Forms.{hex, fill_of, define, child, buffer, weights, rebuild, session_forms, tree_forms, buffer_forms, question_forms, command_of};
 
 use crate::command::{Command, Fill};
 use crate::ctors::ctor;
@@ -95,7 +95,36 @@ fn rebuild(alloc: Global, line: &[u8]) -> Result<Command, LineFault>
     Ok(Command::Rebuild { name, ty })
 }
 
-/// What follows the first word of a command on trees.
+/// What follows the first word of a command on sessions.
+#[tactic(auto, unfolding(crate::specs::Forms::session_forms))]
+fn on_sessions(alloc: Global, first: &[u8], line: &[u8]) -> Result<Command, LineFault>
+    ensures { Gives (λ x. x) result (one_of session_forms first.now (words_of line.now)) }
+{
+    if first == b"pack".as_slice() {
+        let (name, (rep, (count, (ty, (buffer, (origin, ())))))) = Fields::read(alloc, line)?;
+        Ok(Command::Pack {
+            name,
+            rep,
+            count,
+            ty,
+            buffer,
+            origin,
+        })
+    } else if first == b"take".as_slice() {
+        let (session, (len, ())) = Fields::read(alloc, line)?;
+        Ok(Command::Take { session, len })
+    } else if first == b"seek".as_slice() {
+        let (session, (byte, ())) = Fields::read(alloc, line)?;
+        Ok(Command::Seek { session, byte })
+    } else if first == b"close".as_slice() {
+        let (session, ()) = Fields::read(alloc, line)?;
+        Ok(Command::Close { session })
+    } else {
+        Err(LineFault::Syntax)
+    }
+}
+
+/// What follows the first word of a command on trees, or of one on sessions.
 #[tactic(auto, unfolding(crate::specs::Forms::tree_forms))]
 fn on_trees(alloc: Global, first: &[u8], line: &[u8]) -> Result<Command, LineFault>
     ensures { Gives (λ x. x) result (one_of tree_forms first.now (words_of line.now)) }
@@ -108,7 +137,7 @@ fn on_trees(alloc: Global, first: &[u8], line: &[u8]) -> Result<Command, LineFau
     } else if first == b"rebuild".as_slice() {
         rebuild(alloc, line)
     } else {
-        Err(LineFault::Syntax)
+        on_sessions(alloc, first, line)
     }
 }
 

@@ -15,7 +15,7 @@ use Rattle.dt_names.specs.Names.{under}
 use Rattle.dt_sessions.specs.declared.session.Opened.{Opened}
 use Rattle.dt_sessions.specs.declared.session.Session.{Session}
 use Rattle.dt_sessions.specs.declared.session.Session.TheVariants.{Pack}
-use Rattle.dt_sessions.specs.Open.{buf_len_in, at_byte_in, next_in, opened_at, IsOver, IsSmall, HoldsOpen}
+use Rattle.dt_sessions.specs.Open.{buf_len_in, at_byte_in, opened_at, IsOver, IsSmall, HoldsOpen}
 
 -- what holds of each thing that stands under a name
 module _ {A : Type 0} (P : A → Type 0) where
@@ -147,13 +147,6 @@ module _ (buffers : List (List ℕ × List ℕ)) (sessions : List (List ℕ × O
 
   pub length_found : (bytes : List ℕ) → under opened.buffer buffers ≡ Some bytes → length bytes ≡ buf_len_in opened.session
   length_found bytes is = and_found (under opened.buffer buffers) (λ held. length held ≡ buf_len_in opened.session) bytes is over_found
-
-  pub next_found : (bytes : List ℕ) (n : ℕ) → under opened.buffer buffers ≡ Some bytes → (other : Opened) (held : List ℕ) → under name sessions ≡ Some other
-      → under other.buffer buffers ≡ Some held → next_in opened.session bytes n ≡ next_in other.session held n
-  next_found bytes n is other held also stands =
-      let one : opened ≡ other = one_found (under name sessions) opened other at also in
-      let same : bytes ≡ held = one_found (under other.buffer buffers) bytes held (ap (λ (o : Opened). under o.buffer buffers) (sym one) ∙ is) stands in
-      ap (λ (o : Opened). next_in o.session bytes n) one ∙ ap (λ b. next_in other.session b n) same
 
 -- a session keeps its buffer where it goes
 len_at : (session : Session) (byte : ℕ) → buf_len_in (at_byte_in session byte) ≡ buf_len_in session

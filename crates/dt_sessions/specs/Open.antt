@@ -1,5 +1,5 @@
 -- The buffers of a script, and the sessions that are open over them.
-use Rattle.std.specs.Prelude.{◌≡◌, ℕ, ◌≤◌, min, List, [], length}
+use Rattle.std.specs.Prelude.{◌≡◌, ℕ, ◌-◌, ◌≤◌, min, List, [], length}
 use Rattle.std.specs.BTreeMap.{is_at, insert_entry}
 use Rattle.std.specs.Cmp.Lexicographic.{slice_cmp}
 use Rattle.std.specs.List.{sum_by, AllByRecursion}
@@ -33,6 +33,14 @@ buf_len_in (Pack s) = s.buf_len
 -- the packed bytes of all open sessions together
 abbrev pub packed_in : List (List ℕ × Opened) → ℕ
 packed_in sessions = sum_by (λ entry. total_in entry.1.session) sessions
+
+-- how many packed bytes are still to come
+abbrev pub rest_in : Session → ℕ
+rest_in s = total_in s - passed_in s
+
+-- an open pack session
+abbrev pub packing : List ℕ → pack.Session → Opened
+packing buffer s = record { buffer = buffer; session = Pack s }
 
 -- a packed byte to which a session can go, and the session there
 abbrev pub CanSeek : Session → ℕ → Type 0

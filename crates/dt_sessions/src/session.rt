@@ -1,5 +1,5 @@
 //! Open sessions.
-ghost use Rattle.std.specs.Prelude.{◌≡◌, length};
+ghost use Rattle.std.specs.Prelude.{◌≡◌, ◌≤◌, length};
 ghost use Rattle.dt_sessions.specs.Open.{total_in, passed_in, buf_len_in, next_in, at_byte_in, CanSeek, CanTake};
 
 use dt_pack::PackSession;
@@ -30,7 +30,8 @@ impl Session {
 
     /// How many packed bytes were passed.
     pub fn passed(&self) -> u64
-        ensures { result ≡ passed_in self.now }
+        ensures value { result ≡ passed_in self.now }
+        ensures within { result ≤ total_in self.now }
     {
         match self {
             Session::Pack(session) => session.position(),

@@ -142,7 +142,7 @@ impl Transfers {
     pub fn peek(&mut self, name: &Name, out: &mut [u8])
         requires { IsSomeAnd (under name.now self.old.sessions) (λ opened. CanTake opened.session (length out.old)) }
         ensures same { self.new ≡ self.old }
-        ensures bytes { (opened : OpenedValue) (bytes : List ℕ) → under name.now self.old.sessions ≡ Some opened → under opened.buffer self.old.buffers ≡ Some bytes → out.new ≡ next_in opened.session bytes (length out.old) }
+        ensures bytes { (opened : OpenedValue) → under name.now self.old.sessions ≡ Some opened → (bytes : List ℕ) × (under opened.buffer self.old.buffers ≡ Some bytes) × (out.new ≡ next_in opened.session bytes (length out.old)) }
     {
         let Some(opened) = self.sessions.get_mut(name) else {
             unreachable!()

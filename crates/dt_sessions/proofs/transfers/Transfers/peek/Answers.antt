@@ -6,8 +6,8 @@ use Rattle.std.specs.Map.{set_value}
 use Rattle.std.specs.Ordering.{nat_cmp}
 use Rattle.dt_names.specs.Names.{under}
 use Rattle.dt_sessions.specs.declared.session.Opened.{Opened}
-use Rattle.dt_sessions.specs.Open.{Standing, IsOver, CanTake}
-use Rattle.dt_sessions.proofs.OpenLemmas.{and_found, over_found, never_without, length_found, next_found, holds_moved}
+use Rattle.dt_sessions.specs.Open.{Standing, IsOver, CanTake, next_in}
+use Rattle.dt_sessions.proofs.OpenLemmas.{and_found, over_found, never_without, length_found, one_found, holds_moved}
 use Rattle.dt_sessions.proofs.transfers.Transfers.peek.Goals as goal
 
 pub unreachable-requires-in_default-get : goal.unreachable-requires-in_default-get
@@ -46,10 +46,14 @@ returns-clause-same c =
     ap (λ es. let s : Standing = record { buffers = c.self.inside.buffers; sessions = es } in s) back ∙ c.self.view_is
 
 pub returns-clause-bytes : goal.returns-clause-bytes
-returns-clause-bytes c = λ opened bytes is stands.
+returns-clause-bytes c = λ opened is.
     let at : under c.args.name.now c.self.inside.sessions.entries ≡ Some c.in-Some.opened.now = sym c.in-Some.ensures.value in
-    c.peek.ensures.bytes
-    ∙ next_found c.self.inside.buffers c.self.inside.sessions.entries c.args.name.now c.in-Some.opened.now c.self.invariant at c.in-Some-get.buffer.now
-    (length c.args.out.now) c.in-Some-get.ensures opened bytes
-    (subst (λ (s : Standing). under c.args.name.now s.sessions ≡ Some opened) (sym c.self.view_is) is)
-    (subst (λ (s : Standing). under opened.buffer s.buffers ≡ Some bytes) (sym c.self.view_is) stands)
+    let one : c.in-Some.opened.now ≡ opened =
+      one_found (under c.args.name.now c.self.inside.sessions.entries) c.in-Some.opened.now opened at
+      (subst (λ (s : Standing). under c.args.name.now s.sessions ≡ Some opened) (sym c.self.view_is) is)
+    in
+    let here = subst (λ (s : Standing). under c.in-Some.opened.now.buffer s.buffers ≡ Some c.in-Some-get.buffer.now) c.self.view_is c.in-Some-get.ensures in (
+      c.in-Some-get.buffer.now,
+      subst (λ (o : Opened). under o.buffer c.args.self.now.buffers ≡ Some c.in-Some-get.buffer.now) one here,
+      c.peek.ensures.bytes ∙ ap (λ (o : Opened). next_in o.session c.in-Some-get.buffer.now (length c.args.out.now)) one,
+    )
