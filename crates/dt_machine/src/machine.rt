@@ -18,7 +18,7 @@ use crate::state::Totals;
 use dt_kinds::NoMemory;
 use dt_names::{Found, Kept, Stop, Types};
 use dt_reply::{Refusal, Reply};
-use dt_script::{Command, LineFault, Name, parse_line};
+use dt_script::{Bytes, Command, LineFault, Name, parse_line};
 use dt_sessions::{Session, Transfers};
 use dt_tree::Weights;
 use std::alloc::Global;
@@ -197,13 +197,16 @@ impl Machine {
         self.transfers.packed_bytes()
     }
 
-    /// Fills `out` with the next packed bytes of a session, of its buffer as it is now. Nothing is changed.
-    pub(crate) fn peek(&mut self, name: &Name, out: &mut [u8])
-        requires { IsSomeAnd (session_of self.old name.now) (λ opened. CanTake opened.session (length out.old)) }
+    /// The next packed bytes of a session, of its buffer as it is now. Nothing is changed.
+    pub(crate) fn next_bytes(&mut self, name: &Name, count: usize) -> Result<Bytes, NoMemory>
+        requires { IsSomeAnd (session_of self.old name.now) (λ opened. CanTake opened.session count) }
         ensures same { self.new ≡ self.old }
-        ensures bytes { (opened : OpenedValue) → session_of self.old name.now ≡ Some opened → (bytes : List ℕ) × (buffer_of self.old opened.buffer ≡ Some bytes) × (out.new ≡ next_in opened.session bytes (length out.old)) }
+        ensures bytes { (opened : OpenedValue) → session_of self.old name.now ≡ Some opened → IfOk result (λ next. (bytes : List ℕ) × (buffer_of self.old opened.buffer ≡ Some bytes) × (next ≡ next_in opened.session bytes count)) }
     {
-        self.transfers.peek(name, out);
+        let mut bytes = Vec::new(self.alloc);
+        bytes.resize(count, 0)?;
+        self.transfers.peek(name, &mut bytes);
+        Ok(Bytes::from_vec(bytes))
     }
 
     /// Makes a change, and counts the command.

@@ -1,11 +1,11 @@
 //! Commands on sessions: `pack SESSION REP COUNT TYPE BUFFER ORIGIN`, `take SESSION LENGTH`, `seek SESSION BYTE`, `close SESSION`.
-ghost use Rattle.std.specs.Prelude.{◌≡◌, ◌↔◌, ◌≤◌, ◌<◌, ◌-◌, ◌⊎◌, ¬◌, ℤ, pos, nat_abs, int_lt, IsTrue, IfOk, MatchOption, MatchResult, Some, None};
+ghost use Rattle.std.specs.Prelude.{◌≡◌, ◌↔◌, ◌≤◌, ◌<◌, ◌+◌, ◌-◌, ◌⊎◌, ℤ, pos, nat_abs, int_lt, min, IsTrue, IfOk, MatchOption, MatchResult, Some, None};
 ghost use Rattle.std.specs.Option.{IsSomeAnd};
 ghost use Rattle.dt_map.specs.Elements.{elements, are_inside};
 ghost use Rattle.dt_map.specs.Packed.{total};
 ghost use Rattle.dt_names.specs.declared.kept.Kept.{Kept as KeptValue};
 ghost use Rattle.dt_pack.specs.Session as pack;
-ghost use Rattle.dt_sessions.specs.Open.{total_in, passed_in};
+ghost use Rattle.dt_sessions.specs.Open.{total_in, passed_in, rest_in};
 ghost use Rattle.dt_machine.specs.Operation.{session_names_row, opening_row};
 ghost use Rattle.dt_machine.specs.Outcome.{ComesTo};
 ghost use Rattle.dt_machine.specs.Refusal.{IsTooMuch, IsBeyond};
@@ -22,7 +22,7 @@ use dt_kinds::{NoMemory, Rep};
 use dt_names::{Kept, Stop, is_left_out};
 use dt_pack::{PackFault, PackSession};
 use dt_reply::{Refusal, Reply};
-use dt_script::{Bytes, Name};
+use dt_script::Name;
 use dt_sessions::{Opened, Session};
 use dt_type::Datatype;
 use std::alloc::Global;
@@ -49,14 +49,16 @@ fn begun(
     }
 }
 
-/// Where a session stands, and how many packed bytes are still to come.
-fn place_of(session: &Session) -> (u64, u64)
-    ensures passed { result.0 ≡ passed_in session.now }
-    ensures rest { result.1 ≡ total_in session.now - passed_in session.now }
-    ensures within { result.0 ≤ total_in session.now }
+/// How many packed bytes are taken, where so many are asked for, and where the session stands behind them.
+fn taken_of(session: &Session, len: u32) -> (u64, u64)
+    ensures count { result.0 ≡ min len (rest_in session.now) }
+    ensures byte { result.1 ≡ passed_in session.now + min len (rest_in session.now) }
+    ensures within { result.1 ≤ total_in session.now }
 {
     let passed = session.passed();
-    (passed, session.total() - passed)
+    let rest = session.total() - passed;
+    let count = u64::from(len).min(rest);
+    (count, passed + count)
 }
 
 impl Machine {
@@ -157,17 +159,12 @@ impl Machine {
         let Some(found) = self.session(session) else {
             return Err(Stop::Refused(Refusal::UnknownName));
         };
-        let (passed, rest) = place_of(found);
         if len < 0 {
             return Err(Stop::Refused(Refusal::BadArgument));
         }
-        let count = u64::from(len.unsigned_abs()).min(rest);
+        let (count, byte) = taken_of(found, len.unsigned_abs());
         let name = session.copied()?;
-        let mut bytes = Vec::new(self.alloc);
-        bytes.resize(count as usize, 0)?;
-        self.peek(session, &mut bytes);
-        let reply = Reply::Packed(Bytes::from_vec(bytes));
-        let byte = passed + count;
+        let reply = Reply::Packed(self.next_bytes(session, count as usize)?);
         let change = Change::TakeBytes { name, byte, count };
         Ok(Outcome { reply, change })
     }

@@ -49,8 +49,8 @@ pub returns-clause-bytes : goal.returns-clause-bytes
 returns-clause-bytes c = λ opened is.
     let at : under c.args.name.now c.self.inside.sessions.entries ≡ Some c.in-Some.opened.now = sym c.in-Some.ensures.value in
     let one : c.in-Some.opened.now ≡ opened =
-      one_found (under c.args.name.now c.self.inside.sessions.entries) c.in-Some.opened.now opened at
-      (subst (λ (s : Standing). under c.args.name.now s.sessions ≡ Some opened) (sym c.self.view_is) is)
+    one_found (under c.args.name.now c.self.inside.sessions.entries) c.in-Some.opened.now opened at
+    (subst (λ (s : Standing). under c.args.name.now s.sessions ≡ Some opened) (sym c.self.view_is) is)
     in
     let here = subst (λ (s : Standing). under c.in-Some.opened.now.buffer s.buffers ≡ Some c.in-Some-get.buffer.now) c.self.view_is c.in-Some-get.ensures in (
       c.in-Some-get.buffer.now,
