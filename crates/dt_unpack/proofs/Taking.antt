@@ -1,12 +1,12 @@
 -- What bytes of rows complete.
 use Rattle.std.specs.Prelude.{◌≡◌, ℕ, suc, ◌+◌, ◌-◌, ◌*◌, ◌/◌, ◌%◌, ◌<◌, ◌≤◌, ℤ, pos, ◌+ℤ◌, ◌*ℤ◌, List, [], ◌∷◌, ◌++◌, map, take, drop, length}
 use Rattle.std.specs.List.{flat_map}
-use Rattle.std.proofs.Common.{inl, inr, refl, sym, ap, ◌∙◌, arith, append_assoc, append-nil}
+use Rattle.std.proofs.Common.{inl, inr, refl, sym, ap, ◌∙◌, arith, append_assoc, append-nil, length-append}
 use Rattle.std.proofs.lemmas.Bool.{cases_lt}
-use Rattle.std.proofs.lemmas.List.{drop-take, length-take-le, map-append}
+use Rattle.std.proofs.lemmas.List.{drop-take, drop_all, length-take-le, map-append}
 use Rattle.std.proofs.lemmas.Nat.{mul-le}
 use Rattle.std.proofs.Math.Nat.{mod-eq-sub-div-mul, div-mul-le_self, mod-lt}
-use Rattle.dt_cursor.specs.Walk.{AreNext, IsNext, one_row}
+use Rattle.dt_cursor.specs.Walk.{Walk, AreNext, IsNext, further, one_row}
 use Rattle.dt_kinds.specs.declared.kind.Kind.{Kind}
 use Rattle.dt_kinds.specs.declared.kind.Rep.{Rep}
 use Rattle.dt_kinds.specs.Kind.{native_size, packed_size}
@@ -19,9 +19,9 @@ use Rattle.dt_rows.proofs.Filling.{fewer, no_more}
 use Rattle.dt_rows.proofs.Gathering.{row_more}
 use Rattle.dt_rows.proofs.SettingRows.{drop_none, two_pieces}
 use Rattle.dt_rows.proofs.Totals.{total_of_rows}
-use Rattle.dt_unpack.specs.Session.{Session, walk_of, IsOpen}
+use Rattle.dt_unpack.specs.Session.{Session, walk_of, after, IsOpen}
 use Rattle.dt_unpack.proofs.Opening.{none_held}
-use Rattle.dt_unpack.proofs.Steps.{Takes, takes, rows_held, held_is_skip}
+use Rattle.dt_unpack.proofs.Steps.{Takes, takes, rows_held, held_is_skip, model_after}
 
 -- a byte of an element, where bytes of it are held
 module _ (s : Session) (n : ℕ) (is : IsOpen s n) (run : Run) (next : IsNext (walk_of s) run) (most : run.bytes ≤ 1) (byte : ℕ) where
@@ -63,6 +63,14 @@ module _ (s : Session) (n : ℕ) (is : IsOpen s n) (run : Run) (next : IsNext (w
 -- what is left behind no elements
 pub held_is_left : (rep : Rep) (held piece : List ℕ) → held ++ piece ≡ drop (total rep []) (held ++ piece)
 held_is_left rep held piece = sym (drop_none (held ++ piece))
+
+-- rows cut to the whole elements of their bytes, of so many bytes each
+abbrev pub cut_by : Rows → ℕ → Rows
+cut_by r size = record {
+  run = record { kind = r.run.kind; disp = r.run.disp; elements = r.run.bytes / size; skip = 0; bytes = r.run.bytes / size * size };
+  rows = r.rows;
+  step = r.step;
+}
 
 -- rows of fewer elements each, whole ones
 abbrev pub short : Rep → Rows → ℕ → Rows
@@ -193,3 +201,93 @@ whole_piece [] piece a b none within =
     let sum : a + (b - a) ≡ b = omega (arith, within) in
     two_pieces piece a (b - a) ∙ ap (λ k. take k piece) sum
 whole_piece (x ∷ held) piece a b none within = absurd (omega (arith, none))
+
+-- a session, by its parts
+abbrev pub model_of : Walk → ℤ → ℕ → ℕ → List ℕ → Session
+model_of w origin buf_len one held = record { rep = w.rep; elements = w.elements; origin = origin; buf_len = buf_len; one = one; given = w.position; held = held }
+
+-- what is known where rows were named, and their whole elements found
+pub record RowsAreTaken (s : Session) (n : ℕ) (r : Rows) (piece : List ℕ) (width : ℕ) (rep : Rep) (found : Rows) : Type 0 where
+  pub rep_is : rep ≡ s.rep
+  pub size_is : width ≡ packed_size s.rep r.run.kind
+  pub whole : Rows
+  pub is : found ≡ whole
+  pub elements : whole.rows * whole.run.elements ≡ r.rows * (r.run.bytes / width)
+  pub none : length s.held ≡ 0
+  pub enough : bytes_in r ≤ length piece
+  pub within : bytes_in whole ≤ bytes_in r
+  pub bytes : total s.rep (elements_of_rows whole) ≡ bytes_in whole
+  pub takes : Takes s n (take (bytes_in r) piece) (elements_of_rows whole)
+
+pub rows_are_taken : (s u : Session) → s ≡ u → (n : ℕ) → IsOpen s n → (r : Rows) → AreNext (walk_of s) r → (piece : List ℕ) → length u.held ≡ 0 → bytes_in r ≤ length piece
+    → (rep : Rep) (w : Walk) → rep ≡ w.rep → w ≡ further (walk_of s) (bytes_in r) → (width : ℕ) → width ≡ packed_size rep r.run.kind → (found : Rows) → found ≡ cut_by r width
+    → RowsAreTaken s n r piece width rep found
+rows_are_taken s u view n is r next piece none enough rep w reads moved width sized found cut =
+    let rep_is = reads ∙ ap (λ (v : Walk). v.rep) moved in
+    let size_is = sized ∙ ap (λ p. packed_size p r.run.kind) rep_is in
+    let empty = ap (λ (v : Session). length v.held) view ∙ none in
+    record {
+      rep_is = rep_is;
+      size_is = size_is;
+      whole = short s.rep r (r.run.bytes / packed_size s.rep r.run.kind);
+      is = cut ∙ ap (cut_by r) size_is;
+      elements = ap (λ k. r.rows * (r.run.bytes / k)) (sym size_is);
+      none = empty;
+      enough = enough;
+      within = rows_within s n is r next empty piece enough;
+      bytes = row_count s n is r next empty piece enough;
+      takes = rows_take s n is r next empty piece enough;
+    }
+
+-- what is known where a byte was pushed to held ones
+pub record ByteIsTaken (s : Session) (n : ℕ) (run : Run) (byte width : ℕ) (rep : Rep) : Type 0 where
+  pub rep_is : rep ≡ s.rep
+  pub one : run.elements ≡ 1
+  pub single : run.bytes ≡ length (byte ∷ [])
+  pub bytes : total s.rep (elements_of_rows (one_row run)) ≡ packed_size s.rep run.kind
+  pub full : length s.held + 1 ≡ width → (length s.held + 1 ≡ packed_size s.rep run.kind) × Takes s n (byte ∷ []) (elements_of_rows (one_row run))
+  pub more : (length s.held + 1 ≡ width → ⊥) → Takes s n (byte ∷ []) []
+
+pub byte_is_taken : (s : Session) (n : ℕ) → IsOpen s n → (run : Run) → IsNext (walk_of s) run → run.bytes ≤ 1 → (byte : ℕ)
+    → (rep : Rep) (w : Walk) → rep ≡ w.rep → w ≡ further (walk_of s) run.bytes → (width : ℕ) → width ≡ packed_size rep run.kind → ByteIsTaken s n run byte width rep
+byte_is_taken s n is run next most byte rep w reads moved width sized =
+    let rep_is = reads ∙ ap (λ (v : Walk). v.rep) moved in
+    let size_is = sized ∙ ap (λ p. packed_size p run.kind) rep_is in
+    let under = not_over s n is run next most byte in
+    record {
+      rep_is = rep_is;
+      one = one_element s n is run next most byte;
+      single = one_byte s n is run next most byte;
+      bytes = bytes_of_one s n is run next most byte;
+      full = λ all. (all ∙ size_is, byte_completes s n is run next most byte (all ∙ size_is));
+      more = λ other. byte_is_held s n is run next most byte (
+          elim (cases_lt (length s.held + 1) (packed_size s.rep run.kind)) [
+            | inl less ↦ less
+            | inr all ↦ absurd (other (omega (arith, all, under, size_is)))
+          ]);
+    }
+
+-- the session after rows were taken, by its parts
+pub rows_model : (s : Session) (n : ℕ) (r : Rows) (piece : List ℕ) (width : ℕ) (rep : Rep) (found : Rows) (k : RowsAreTaken s n r piece width rep found)
+    → (w : Walk) (held : List ℕ) → w ≡ further (walk_of s) (bytes_in r) → held ≡ s.held ++ take (bytes_in r - bytes_in found) (drop (bytes_in found) piece)
+    → model_of w s.origin s.buf_len s.one held ≡ after s (take (bytes_in r) piece)
+rows_model s n r piece width rep found k w held moved hold =
+    model_after s n (take (bytes_in r) piece) (elements_of_rows k.whole) k.takes w (bytes_in r) held moved (sym (length-take-le (bytes_in r) piece k.enough))
+    (hold ∙ ap (λ f. s.held ++ take (bytes_in r - bytes_in f) (drop (bytes_in f) piece)) k.is
+    ∙ left_over s.held piece (bytes_in k.whole) (bytes_in r) k.none k.within
+    ∙ ap (λ b. drop b (s.held ++ take (bytes_in r) piece)) (sym k.bytes))
+
+-- the session after a byte, by its parts: where it completes an element, and where it doesn't
+pub full_model : (s : Session) (n : ℕ) (run : Run) (byte width : ℕ) (rep : Rep) (k : ByteIsTaken s n run byte width rep)
+    → (length s.held + 1 ≡ packed_size s.rep run.kind) × Takes s n (byte ∷ []) (elements_of_rows (one_row run))
+    → (w : Walk) (held : List ℕ) → w ≡ further (walk_of s) run.bytes → held ≡ [] → model_of w s.origin s.buf_len s.one held ≡ after s (byte ∷ [])
+full_model s n run byte width rep k full w held moved none =
+    let bytes = k.bytes in
+    let all = full.0 in
+    model_after s n (byte ∷ []) (elements_of_rows (one_row run)) full.1 w run.bytes held moved k.single
+    (none ∙ sym (drop_all _ (s.held ++ byte ∷ []) (omega (arith, all, bytes, length-append s.held (byte ∷ [])))))
+
+pub more_model : (s : Session) (n : ℕ) (run : Run) (byte width : ℕ) (rep : Rep) (k : ByteIsTaken s n run byte width rep) → Takes s n (byte ∷ []) []
+    → (w : Walk) (held : List ℕ) → w ≡ further (walk_of s) run.bytes → held ≡ s.held ++ byte ∷ [] → model_of w s.origin s.buf_len s.one held ≡ after s (byte ∷ [])
+more_model s n run byte width rep k t w held moved pushed =
+    model_after s n (byte ∷ []) [] t w run.bytes held moved k.single (pushed ∙ held_is_left s.rep s.held (byte ∷ []))
