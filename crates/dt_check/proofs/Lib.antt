@@ -6,3 +6,4 @@ pub mod Looking
 pub mod Lowering
 pub mod Ones
 pub mod Rowed
+pub mod Spreading

@@ -1,8 +1,10 @@
 pub mod Blocks
+pub mod Classes
 pub mod Failing
 pub mod Greatest
 pub mod Laws
 pub mod Levels
 pub mod Members
 pub mod Rows
+pub mod Spread
 pub mod Sums

@@ -8,4 +8,4 @@ mod level;
 mod sums;
 mod values;
 
-pub use failing::{Segment, first_failing};
+pub use failing::{Segment, first_failing, first_failing_of_classes};

@@ -4,6 +4,7 @@ ghost use Rattle.std.specs.List.{All};
 ghost use Rattle.dt_normal.specs.declared.low.Low.{Low};
 ghost use Rattle.dt_check.specs.Members.{IsMember, table_of};
 ghost use Rattle.dt_check.specs.Rows.{AreRows, table_in, with_value};
+ghost use Rattle.dt_check.specs.Spread.{AreSpread, IsSpread};
 
 use dt_alike::Classes;
 use dt_kinds::NoMemory;
@@ -53,6 +54,38 @@ pub(crate) fn values(
     'lows: for k in 0..lows.len() {
         let a = lows[lows.len() - 1 - k];
         set_value(&mut rows, a.from as usize, (a.to - a.from) as usize, a.low);
+    }
+    Ok(rows)
+}
+
+/// For each segment of a length what a row says of the first segment of its class.
+fn spread_row(alloc: Global, classes: &Classes, len: u32, row: &[u64]) -> Result<Vec<u64>, NoMemory>
+    requires some { 1 ≤ len }
+    requires inside { len ≤ length classes.now }
+    requires row { length row.now + len ≡ length classes.now + 1 }
+    ensures { IfOk result (λ spread. IsSpread classes.now len (length row.now) row.now spread.items) }
+{
+    let mut spread = Vec::with_capacity(alloc, row.len())?;
+    'starts: for start in 0..classes.len() + 1 - len {
+        spread.push(row[classes.first(start, start + len) as usize])?;
+    }
+    Ok(spread)
+}
+
+/// For each segment what the rows say of the first segment of its class.
+pub(crate) fn spread(
+    alloc: Global,
+    classes: &Classes,
+    firsts: &[Vec<u64>],
+) -> Result<Vec<Vec<u64>>, NoMemory>
+    requires rows { AreRows (length classes.now) firsts.now }
+    requires each { length firsts.now ≡ length classes.now }
+    ensures { IfOk result (λ rows. AreSpread classes.now (length classes.now) firsts.now rows.items) }
+{
+    let mut rows = Vec::with_capacity(alloc, firsts.len())?;
+    'lengths: for k in 0..classes.len() {
+        let row = spread_row(alloc, classes, k + 1, &firsts[k as usize])?;
+        rows.push(row)?;
     }
     Ok(rows)
 }

@@ -1,15 +1,15 @@
 -- From an element to the next.
 use mir.Syntax.{w64}
 use mir.Val.{to_z, of_z}
-use Rattle.std.specs.Prelude.{◌≡◌, Some, ℕ, ◌+◌, ◌<◌, ◌≤◌, ℤ, pos, List, [], ◌∷◌, ◌++◌, length}
+use Rattle.std.specs.Prelude.{◌≡◌, ℕ, ◌+◌, ◌<◌, ℤ, pos, List, [], ◌∷◌, ◌++◌}
 use Rattle.std.proofs.Common.{refl, sym, ap, subst, ◌∙◌, arith}
 use Rattle.std.proofs.lemmas.Int.{to_z-of_z, fits_signed_from_abs}
 use Rattle.std.proofs.lemmas.List.Sums.{sum_by-cons}
 use Rattle.dt_cursor.specs.declared.frames.Frame.{Frame}
 use Rattle.dt_cursor.specs.declared.onward.Next.{Next}
-use Rattle.dt_cursor.specs.Frames.{IsHalfRun, IsToRun, StandAt, ToCome}
+use Rattle.dt_cursor.specs.Frames.{IsToRun, StandAt, ToCome}
 use Rattle.dt_cursor.specs.Onward.{IsNextOf}
-use Rattle.dt_cursor.specs.Rounds.{Round, elements_of}
+use Rattle.dt_cursor.specs.Rounds.{elements_of}
 use Rattle.dt_cursor.specs.Search.{IsFound, IsSought}
 use Rattle.dt_cursor.proofs.Running.{next_round, rounds_are_left}
 use Rattle.dt_kinds.specs.declared.kind.Rep.{Rep}

@@ -1,5 +1,5 @@
 -- What is to come of a body that is half run.
-use Rattle.std.specs.Prelude.{◌≡◌, Some, ℕ, zero, suc, ◌+◌, ◌<◌, ◌⊎◌, ℤ, pos, List, [], ◌∷◌, ◌++◌, map, length, drop, get_or, slice_get}
+use Rattle.std.specs.Prelude.{◌≡◌, Some, ℕ, suc, ◌+◌, ◌<◌, ◌⊎◌, ℤ, List, [], ◌∷◌, ◌++◌, map, length, drop, get_or, slice_get}
 use Rattle.std.proofs.Common.{refl, sym, ap, subst, ◌∙◌, arith, inl, inr, append_assoc, length-append}
 use Rattle.dt_cursor.specs.declared.frames.Frame.{Frame}
 use Rattle.dt_cursor.specs.Frames.{IsHalfRun}
@@ -42,14 +42,15 @@ append_split (x ∷ xs) ys [] later r e = let same : x ≡ r = cc in inl (xs, ap
 append_split (x ∷ xs) ys (g ∷ gone) later r e =
     let same : x ≡ g = cc in
     elim (append_split xs ys gone later r cc) [
-    inl h ↦ inl (h.0, ap (λ y. y ∷ xs) same ∙ ap (λ zs. g ∷ zs) h.1, h.2)
-    | inr h ↦ inr h
+      | inl h ↦ inl (h.0, ap (λ y. y ∷ xs) same ∙ ap (λ zs. g ∷ zs) h.1, h.2)
+      | inr h ↦ inr h
     ]
 
 -- the turn that a loop is in, and those to come
 pub record IsTurn (frame : Frame) (t : Turns) (b : Body) (later : List Round) : Type 0 where
   pub within : frame.turn < t.count
   pub to_come : later ≡ map (turn_round frame.instr t b frame.base) (drop (suc frame.turn) (below t.count))
+  pub copy : frame.copy ≡ 0
   pub some : 0 < size Native b
 
 pub half_turn : (code : List Instr) (levels : ℕ) (frame : Frame) (t : Turns) (b : Body) (later : List Round) → IsHalfRun code levels frame (loop t b) later → IsTurn frame t b later
@@ -59,8 +60,17 @@ half_turn code levels frame t b later half =
     record {
       within = subst (λ k. k < t.count) turn s.0;
       to_come = subst (λ k. later ≡ map (turn_round frame.instr t b frame.base) (drop (suc k) (below t.count))) turn s.2;
+      copy = ap (λ (f : Frame). f.copy) (sym half.here) ∙ ap (λ (r : Round). r.frame.copy) s.1;
       some = subst (λ (r : Round). 0 < size Native r.body) s.1 half.some;
     }
+
+-- the round that a loop is in
+pub turn_here : (code : List Instr) (levels : ℕ) (frame : Frame) (t : Turns) (b : Body) (later : List Round) → (half : IsHalfRun code levels frame (loop t b) later)
+    → half.round ≡ turn_round frame.instr t b frame.base frame.turn
+turn_here code levels frame t b later half =
+    let s = below_split (turn_round frame.instr t b frame.base) t.count half.gone later half.round half.split in
+    let turn : length half.gone ≡ frame.turn = ap (λ (r : Round). r.frame.turn) (sym s.1) ∙ ap (λ (f : Frame). f.turn) half.here in
+    s.1 ∙ ap (turn_round frame.instr t b frame.base) turn
 
 -- the copy that a row of spots is in, and those to come
 record IsCopySplit (at inside : ℕ) (b : Body) (x : ℤ) (n : ℕ) (spots : List Spot) (r : Round) (later : List Round) : Type 0 where
@@ -80,30 +90,30 @@ copy_split at inside b x n (s ∷ spots) gone later r e =
     let f = copy_round at inside b x n s in
     let first : n ≡ n + 0 = omega arith in
     elim (append_split (map f (below s.copies)) (copy_rounds at inside b x (n + 1) spots) gone later r e) [
-    inl h ↦
-        let is = below_split f s.copies gone h.0 r h.1 in
-        record {
-          i = 0;
-          spot = s;
-          copy = length gone;
-          got = refl;
-          within = is.0;
-          round = is.1 ∙ ap (λ k. copy_round at inside b x k s (length gone)) first;
-          to_come = h.2 ∙ ap (λ l. l ++ copy_rounds at inside b x (n + 1) spots) is.2
-              ∙ ap (λ k. map (copy_round at inside b x k s) (drop (suc (length gone)) (below s.copies)) ++ copy_rounds at inside b x (k + 1) spots) first;
-        }
-    | inr h ↦
-        let is = copy_split at inside b x (n + 1) spots h.0 later r h.1 in
-        let there : n + 1 + is.i ≡ n + suc is.i = omega arith in
-        record {
-          i = suc is.i;
-          spot = is.spot;
-          copy = is.copy;
-          got = is.got;
-          within = is.within;
-          round = is.round ∙ ap (λ k. copy_round at inside b x k is.spot is.copy) there;
-          to_come = is.to_come ∙ ap (λ k. map (copy_round at inside b x k is.spot) (drop (suc is.copy) (below is.spot.copies)) ++ copy_rounds at inside b x (k + 1) (drop (suc is.i) spots)) there;
-        }
+      | inl h ↦
+          let is = below_split f s.copies gone h.0 r h.1 in
+          record {
+            i = 0;
+            spot = s;
+            copy = length gone;
+            got = refl;
+            within = is.0;
+            round = is.1 ∙ ap (λ k. copy_round at inside b x k s (length gone)) first;
+            to_come = h.2 ∙ ap (λ l. l ++ copy_rounds at inside b x (n + 1) spots) is.2
+                ∙ ap (λ k. map (copy_round at inside b x k s) (drop (suc (length gone)) (below s.copies)) ++ copy_rounds at inside b x (k + 1) spots) first;
+          }
+      | inr h ↦
+          let is = copy_split at inside b x (n + 1) spots h.0 later r h.1 in
+          let there : n + 1 + is.i ≡ n + suc is.i = omega arith in
+          record {
+            i = suc is.i;
+            spot = is.spot;
+            copy = is.copy;
+            got = is.got;
+            within = is.within;
+            round = is.round ∙ ap (λ k. copy_round at inside b x k is.spot is.copy) there;
+            to_come = is.to_come ∙ ap (λ k. map (copy_round at inside b x k is.spot) (drop (suc is.copy) (below is.spot.copies)) ++ copy_rounds at inside b x (k + 1) (drop (suc is.i) spots)) there;
+          }
     ]
 
 abbrev pub inside_of : Frame → List Spot → ℕ
@@ -114,9 +124,9 @@ pub record IsCopy (frame : Frame) (spots : List Spot) (b : Body) (later : List R
   pub got : slice_get spots frame.turn ≡ Some spot
   pub within : frame.copy < spot.copies
   pub to_come :
-    later
-    ≡ map (copy_round frame.instr (inside_of frame spots) b frame.base frame.turn spot) (drop (suc frame.copy) (below spot.copies))
-    ++ copy_rounds frame.instr (inside_of frame spots) b frame.base (frame.turn + 1) (drop (frame.turn + 1) spots)
+      later
+      ≡ map (copy_round frame.instr (inside_of frame spots) b frame.base frame.turn spot) (drop (suc frame.copy) (below spot.copies))
+      ++ copy_rounds frame.instr (inside_of frame spots) b frame.base (frame.turn + 1) (drop (frame.turn + 1) spots)
   pub some : 0 < size Native b
 
 pub half_copy : (code : List Instr) (levels : ℕ) (frame : Frame) (spots : List Spot) (b : Body) (later : List Round) → IsHalfRun code levels frame (each spots b) later
@@ -138,6 +148,20 @@ half_copy code levels frame spots b later half =
           ∙ ap (λ k. map (copy_round frame.instr (inside_of frame spots) b frame.base frame.turn s.spot) (drop (suc frame.copy) (below s.spot.copies)) ++ copy_rounds frame.instr (inside_of frame spots) b frame.base (frame.turn + 1) (drop k spots)) (next ∙ ap (λ k. k + 1) turn);
       some = subst (λ (r : Round). 0 < size Native r.body) s.round half.some;
     }
+
+-- the round that a row of spots is in
+pub copy_here : (code : List Instr) (levels : ℕ) (frame : Frame) (spots : List Spot) (b : Body) (later : List Round) → (half : IsHalfRun code levels frame (each spots b) later)
+    → (s : Spot) → slice_get spots frame.turn ≡ Some s → half.round ≡ copy_round frame.instr (inside_of frame spots) b frame.base frame.turn s frame.copy
+copy_here code levels frame spots b later half spot got =
+    let s = copy_split frame.instr (inside_of frame spots) b frame.base 0 spots half.gone later half.round half.split in
+    let turn : s.i ≡ frame.turn = omega (arith, ap (λ (r : Round). r.frame.turn) s.round, ap (λ (f : Frame). f.turn) half.here) in
+    let copy : s.copy ≡ frame.copy = ap (λ (r : Round). r.frame.copy) (sym s.round) ∙ ap (λ (f : Frame). f.copy) half.here in
+    let zero_more : 0 + s.i ≡ s.i = omega arith in
+    let read : slice_get spots frame.turn ≡ Some s.spot = subst (λ k. slice_get spots k ≡ Some s.spot) turn s.got in
+    let same : s.spot ≡ spot = (let both = sym read ∙ got in cc) in
+    s.round ∙ ap (λ k. copy_round frame.instr (inside_of frame spots) b frame.base k s.spot s.copy) (zero_more ∙ turn)
+    ∙ ap (λ k. copy_round frame.instr (inside_of frame spots) b frame.base frame.turn s.spot k) copy
+    ∙ ap (λ z. copy_round frame.instr (inside_of frame spots) b frame.base frame.turn z frame.copy) same
 
 -- parts at places
 module _ (code : List Instr) (place : ℕ) where
@@ -195,6 +219,10 @@ half_part code levels frame parts later half =
       there = length-append p.before (head ∷ []) ∙ ap (λ n. n + 1) p.place;
     } in
     let s = part_split code frame.instr (frame.instr + 1) parts frame.base half.gone later half.round are half.split in
-    let there : s.place ≡ frame.turn = ap (λ (r : Round). r.frame.turn) (sym s.round) ∙ ap (λ (f : Frame). f.turn) half.here in
-    (s.turns, s.body, s.others, subst (λ k. AreParts code k (part s.turns s.body s.others)) there s.are,
-    subst (λ k. later ≡ part_rounds frame.instr (k + (width s.body + 2)) s.others frame.base) there s.to_come)
+    let there : s.place ≡ frame.turn = ap (λ (r : Round). r.frame.turn) (sym s.round) ∙ ap (λ (f : Frame). f.turn) half.here in (
+      s.turns,
+      s.body,
+      s.others,
+      subst (λ k. AreParts code k (part s.turns s.body s.others)) there s.are,
+      subst (λ k. later ≡ part_rounds frame.instr (k + (width s.body + 2)) s.others frame.base) there s.to_come,
+    )

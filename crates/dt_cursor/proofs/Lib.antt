@@ -1,6 +1,8 @@
 pub mod ByLevels
 pub mod Climbing
+pub mod Cuts
 pub mod Elements
+pub mod Evenly
 pub mod Halfway
 pub mod IntoCopies
 pub mod IntoParts
@@ -14,3 +16,5 @@ pub mod Reading
 pub mod Running
 pub mod SpotCopies
 pub mod Sums
+pub mod Takings
+pub mod WithinLevel

@@ -1,14 +1,13 @@
 -- Parts of one element, named and passed.
 use mir.Syntax.{w64}
 use mir.Val.{to_z, of_z}
-use Rattle.std.specs.Prelude.{◌≡◌, Option, Some, None, IfSome, IfNone, ℕ, ◌+◌, ◌*◌, ◌^◌, ◌<◌, ◌≤◌, ℤ, ◌+ℤ◌, ◌*ℤ◌, pos, nat_abs, List, [], ◌∷◌, ◌++◌, length, drop, slice_get}
+use Rattle.std.specs.Prelude.{◌≡◌, Option, Some, None, IfSome, IfNone, ℕ, ◌+◌, ◌^◌, ◌<◌, ◌≤◌, ℤ, ◌+ℤ◌, ◌*ℤ◌, pos, nat_abs, List, [], ◌∷◌, ◌++◌, drop, slice_get}
 use Rattle.std.proofs.Common.{refl, sym, ap, subst, ◌∙◌, arith, append-nil}
 use Rattle.std.proofs.lemmas.Int.{ints, to_z-of_z, fits_signed_from_abs}
 use Rattle.dt_cursor.specs.declared.frames.Frame.{Frame}
-use Rattle.dt_cursor.specs.declared.passing.Passed.{Passed}
 use Rattle.dt_cursor.specs.Ahead.{AreAhead, AreTaken, ArePassed}
 use Rattle.dt_cursor.specs.Frames.{StandAt, ToCome}
-use Rattle.dt_cursor.specs.Search.{AreHeld, IsFound}
+use Rattle.dt_cursor.specs.Search.{AreHeld}
 use Rattle.dt_cursor.proofs.Climbing.{packed_size-pos, total-cons}
 use Rattle.dt_cursor.proofs.Reading.{head_here}
 use Rattle.dt_kinds.specs.declared.kind.Kind.{Kind}
@@ -21,8 +20,7 @@ use Rattle.dt_layout.specs.declared.instr.Instr.TheVariants as variants
 use Rattle.dt_map.specs.declared.entry.Entry.{Entry}
 use Rattle.dt_map.specs.Packed.{total}
 use Rattle.dt_rows.specs.declared.rows.Rows.{Rows}
-use Rattle.dt_rows.specs.declared.rows.Run.{Run}
-use Rattle.dt_rows.specs.Rows.{AreRows, IsRun, adjacent, bytes_in, elements_of_rows}
+use Rattle.dt_rows.specs.Rows.{AreRows, adjacent, elements_of_rows}
 
 abbrev pub entry_at : Kind → ℤ → Entry
 entry_at kind x = record { kind = kind; disp = x }
@@ -72,7 +70,7 @@ popped (Some f) old new some none = ap (drop 1) some
 abbrev pub part_rows : Kind → ℤ → ℕ → ℕ → Rows
 part_rows kind x skip bytes = record { run = record { kind = kind; disp = x; elements = 1; skip = skip; bytes = bytes }; rows = 1; step = pos 0 }
 
-no_step : (x y : ℤ) → x +ℤ (pos 0 *ℤ y) ≡ x
+pub no_step : (x y : ℤ) → x +ℤ (pos 0 *ℤ y) ≡ x
 no_step x y = omega (arith, ints)
 
 pub elements_of_part : (kind : Kind) (x : ℤ) (skip bytes : ℕ) → elements_of_rows (part_rows kind x skip bytes) ≡ entry_at kind x ∷ []
@@ -124,3 +122,14 @@ taken_passed code rep es held old new r taken climbed = record {
     not_begun : (fs : List Entry) → AreHeld rep 0 fs
     not_begun [] = refl
     not_begun (e ∷ fs) = packed_size-pos rep e.kind
+
+-- the same taking, of what is the same
+pub taken_at : (code : List Instr) (rep : Rep) (es : List Entry) (held : ℕ) (old new : List Frame) (r s : Rows) → old ≡ new → r ≡ s → AreTaken code rep es held old r → AreTaken code rep es held new s
+taken_at code rep es held old new r s frames rows taken = subst (λ fs. AreTaken code rep es held fs s) frames (subst (AreTaken code rep es held old) rows taken)
+
+-- frames of which the innermost was taken away
+pub stood : (code : List Instr) (frame : Frame) (old new : List Frame) (es : List Entry) → slice_get old 0 ≡ Some frame → drop 1 old ≡ new → StandAt code old es → StandAt code (frame ∷ new) es
+stood code frame [] new es top rest stand = cc
+stood code frame (f ∷ fs) new es top rest stand =
+    let same : f ≡ frame = cc in
+    subst (λ g. StandAt code (g ∷ new) es) same (subst (λ gs. StandAt code (f ∷ gs) es) rest stand)

@@ -1,14 +1,13 @@
 -- The round that comes next.
 use mir.Syntax.{w64}
 use mir.Val.{to_z, of_z}
-use Rattle.std.specs.Prelude.{◌≡◌, Some, ℕ, suc, ◌+◌, ◌*◌, ◌^◌, ◌<◌, ◌≤◌, ◌⊎◌, ℤ, ◌+ℤ◌, ◌*ℤ◌, pos, nat_abs, List, [], ◌∷◌, ◌++◌, map, length, drop, get_or, slice_get}
-use Rattle.std.proofs.Common.{refl, sym, ap, subst, ◌∙◌, arith, inl, inr, append_assoc, drop-cons}
+use Rattle.std.specs.Prelude.{◌≡◌, Some, ℕ, suc, ◌+◌, ◌*◌, ◌^◌, ◌<◌, ◌≤◌, ◌⊎◌, ℤ, ◌+ℤ◌, ◌*ℤ◌, pos, nat_abs, List, [], ◌∷◌, ◌++◌, map, length, drop, slice_get}
+use Rattle.std.proofs.Common.{refl, sym, ap, ◌∙◌, arith, inl, inr, append_assoc, drop-cons}
 use Rattle.std.proofs.lemmas.Int.{to_z-of_z, fits_signed_from_abs}
 use Rattle.std.proofs.lemmas.List.{drop_all}
 use Rattle.std.proofs.lemmas.Grind.{flat_map-append}
 use Rattle.std.proofs.lemmas.List.Sums.{sum_by-cons}
 use Rattle.std.proofs.lemmas.Option.{slice_get_within, get_or_from_slice_get}
-use Rattle.std.proofs.Math.Nat.{mul-le-mul_right}
 use Rattle.dt_cursor.specs.declared.frames.Frame.{Frame}
 use Rattle.dt_cursor.specs.declared.onward.Next.{Next}
 use Rattle.dt_cursor.specs.declared.spots.SpotCopy.{SpotCopy}
@@ -17,7 +16,7 @@ use Rattle.dt_cursor.specs.Onward.{AreParts, HaveNoCopies, HaveNoElements, IsNex
 use Rattle.dt_cursor.specs.Rounds.{Round, turn_round, copy_round, copy_rounds, part_round, part_rounds, rounds, elements_of}
 use Rattle.dt_cursor.specs.Search.{AreSpots}
 use Rattle.dt_cursor.proofs.Halfway.{half_turn, half_copy, half_part, inside_of, part_read, end_read}
-use Rattle.dt_cursor.proofs.Reading.{at_within, head_of, head_is, loop_here, each_here, spots_here}
+use Rattle.dt_cursor.proofs.Reading.{head_of, head_is, loop_here, each_here, spots_here}
 use Rattle.dt_cursor.proofs.Running.{is_round, half_run_is_suffix}
 use Rattle.dt_kinds.specs.declared.kind.Rep.TheVariants.{Native}
 use Rattle.dt_kinds.specs.Kind.{packed_size}
@@ -122,12 +121,6 @@ spot_skipped spots from i s got zero before at inside b x =
     ∙ ap (λ k. map (copy_round at inside b x i s) (below k) ++ copy_rounds at inside b x (i + 1) (drop (i + 1) spots)) zero
 
 module _ (code : List Instr) (levels : ℕ) (frame : Frame) (spots : List Spot) (b : Body) (later : List Round) (half : IsHalfRun code levels frame (each spots b) later) where
-  round_of : ℕ → Spot → ℕ → Round
-  round_of number s copy = copy_round frame.instr (inside_of frame spots) b frame.base number s copy
-
-  rounds_from : ℕ → List Round
-  rounds_from i = copy_rounds frame.instr (inside_of frame spots) b frame.base i (drop i spots)
-
   -- the next copy of the same spot
   same_spot : (s : Spot) → slice_get spots frame.turn ≡ Some s → frame.copy + 1 < s.copies
       → later ≡ copy_round frame.instr (inside_of frame spots) b frame.base frame.turn s (frame.copy + 1)
@@ -253,14 +246,11 @@ module _ (code : List Instr) (place : ℕ) where
       let both = sym (part_read code place t b rest are) ∙ got in
       absurd (not t (sizes_of b) (place + (width b + 2)) cc)
 
-pub product_some : (a b : ℕ) → 0 < a → 0 < b → 0 < a * b
-product_some a b some more = let least : 1 * b ≤ a * b = mul-le-mul_right b (omega (arith, some)) in omega (arith, least, more)
-
 pub product_none : (a b : ℕ) → (0 < a × (b ≤ 0)) ⊎ (a ≤ 0) → a * b ≡ 0
 product_none a b none =
     elim none [
-    inl h ↦ (let zero : b ≡ 0 = omega (arith, h.1) in let gone : a * 0 ≡ 0 = omega arith in ap (λ n. a * n) zero ∙ gone)
-    | inr h ↦ (let zero : a ≡ 0 = omega (arith, h) in let gone : 0 * b ≡ 0 = omega arith in ap (λ n. n * b) zero ∙ gone)
+      | inl h ↦ (let zero : b ≡ 0 = omega (arith, h.1) in let gone : a * 0 ≡ 0 = omega arith in ap (λ n. a * n) zero ∙ gone)
+      | inr h ↦ (let zero : a ≡ 0 = omega (arith, h) in let gone : 0 * b ≡ 0 = omega arith in ap (λ n. n * b) zero ∙ gone)
     ]
 
 pub seq_here : (at : ℕ) (body : Body) (number next : ℕ) → head_of at body ≡ variants.Seq number next → (parts : Parts) × (body ≡ seq parts)
@@ -296,9 +286,6 @@ module _ (code : List Instr) (levels : ℕ) (frame : Frame) (body : Body) (later
       → ((t : Turns) (sizes : Sizes) (next : ℕ) → i ≡ variants.Loop t sizes next → ⊥) → ((count : ℕ) (sizes : Sizes) (next : ℕ) → i ≡ variants.Each count sizes next → ⊥)
       → ((number next : ℕ) → i ≡ variants.Seq number next → ⊥) → ⊥
   half_read i got = not_other frame.instr body i frame.base (head_is code frame.instr body frame.base half.placed i got) half.gone later half.round half.split
-
-  pub half_within : frame.instr < length code
-  half_within = at_within code frame.instr body frame.base half.placed
 
 pub half_spots : (code : List Instr) (levels : ℕ) (frame : Frame) (spots : List Spot) (b : Body) (later : List Round) → IsHalfRun code levels frame (each spots b) later → AreSpots code (frame.instr + 1) spots
 half_spots code levels frame spots b later half = spots_here code frame.instr spots b frame.base half.placed

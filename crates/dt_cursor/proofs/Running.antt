@@ -28,7 +28,7 @@ module _ (code : List Instr) (at : ℕ) (body : Body) (x : ℤ) (placed : IsPlac
       let deep = is_round.shallow in
       elements_rounds at body x (omega (arith, deep)) ∙ ap elements_of split ∙ flat_map-append (λ (r : Round). meaning r.body r.offset) gone (round ∷ later)
 
-  half_run : (levels : ℕ) → levels + opened body ≤ 128 → 0 < size Native round.body → IsHalfRun code levels round.frame body later
+  pub half_run : (levels : ℕ) → levels + opened body ≤ 128 → 0 < size Native round.body → IsHalfRun code levels round.frame body later
   half_run levels room some = record {
     placed = subst (λ i. IsPlaced code i body round.frame.base) (sym is_round.instr) (subst (λ y. IsPlaced code at body y) (sym is_round.base) placed);
     room = room;

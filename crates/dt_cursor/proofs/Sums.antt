@@ -1,20 +1,17 @@
 -- The packed bytes of a whole program.
-use Rattle.std.specs.Prelude.{◌≡◌, Some, ℕ, suc, ◌+◌, ◌*◌, ◌^◌, ◌<◌, ◌≤◌, ◌⊎◌, ℤ, pos, List, [], ◌∷◌, ◌++◌, length, drop, slice_get}
-use Rattle.std.proofs.Common.{refl, sym, ap, subst, ◌∙◌, arith, inl, inr, append_assoc, drop-cons, length-append}
+use Rattle.std.specs.Prelude.{◌≡◌, Some, ℕ, suc, ◌+◌, ◌*◌, ◌^◌, ◌<◌, ◌≤◌, ◌⊎◌, pos, List, [], ◌∷◌, ◌++◌, length, drop, slice_get}
+use Rattle.std.proofs.Common.{refl, sym, ap, ◌∙◌, arith, inl, inr, append_assoc, drop-cons, length-append}
 use Rattle.std.proofs.lemmas.List.{drop_all}
 use Rattle.std.proofs.lemmas.Option.{slice_get_within, get_or_from_slice_get}
 use Rattle.dt_cursor.specs.Frames.{IsPlaced}
 use Rattle.dt_cursor.specs.Onward.{AreParts}
-use Rattle.dt_cursor.specs.Search.{AreSpots}
 use Rattle.dt_cursor.proofs.Climbing.{total-cons}
-use Rattle.dt_cursor.proofs.NextRounds.{seq_here}
-use Rattle.dt_cursor.proofs.Reading.{at_within, each_here, head_is, head_of, loop_here, one_here, spots_here}
+use Rattle.dt_cursor.proofs.Reading.{at_within, head_is, head_of}
 use Rattle.dt_cursor.proofs.Running.{program_is_to_run}
-use Rattle.dt_kinds.specs.declared.kind.Kind.{Kind}
 use Rattle.dt_kinds.specs.declared.kind.Rep.{Rep}
 use Rattle.dt_kinds.specs.declared.kind.Rep.TheVariants.{Native, External32}
 use Rattle.dt_kinds.proofs.Table.{external_is_no_larger}
-use Rattle.dt_layout.specs.Body.{Body, one, loop, each, seq, Parts, meaning, size, sizes, sizes_of, widths, width, number_of}
+use Rattle.dt_layout.specs.Body.{Body, one, loop, each, seq, Parts, meaning, size, widths, number_of}
 use Rattle.dt_layout.specs.declared.instr.Instr.{Instr}
 use Rattle.dt_layout.specs.declared.instr.Instr.TheVariants as variants
 use Rattle.dt_layout.specs.Program.{IsProgram, StandsFor, spellings}

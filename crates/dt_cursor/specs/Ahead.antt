@@ -1,5 +1,5 @@
 -- What is named of the elements that are to come, and passed.
-use Rattle.std.specs.Prelude.{◌≡◌, ℕ, ◌+◌, pos, List, ◌++◌}
+use Rattle.std.specs.Prelude.{◌≡◌, ℕ, ◌+◌, List, ◌++◌}
 use Rattle.dt_cursor.specs.declared.frames.Frame.{Frame}
 use Rattle.dt_cursor.specs.declared.passing.Passed.{Passed}
 use Rattle.dt_cursor.specs.Frames.{ToCome}

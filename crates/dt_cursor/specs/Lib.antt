@@ -5,4 +5,5 @@ pub mod Laws
 pub mod Onward
 pub mod Rounds
 pub mod Search
+pub mod Spread
 pub mod Walk

@@ -1,12 +1,12 @@
 -- How a run goes on from one round of a body to the next.
-use Rattle.std.specs.Prelude.{◌≡◌, Some, ℕ, ◌+◌, ◌<◌, ℤ, List, [], ◌∷◌, ◌++◌, length, drop, slice_get}
+use Rattle.std.specs.Prelude.{◌≡◌, Some, ℕ, ◌<◌, ℤ, List, [], ◌∷◌, ◌++◌, length, drop, slice_get}
 use Rattle.dt_cursor.specs.declared.frames.Frame.{Frame}
 use Rattle.dt_cursor.specs.declared.onward.Next.{Next}
 use Rattle.dt_cursor.specs.declared.spots.SpotCopy.{SpotCopy}
 use Rattle.dt_cursor.specs.Frames.{IsHalfRun}
 use Rattle.dt_cursor.specs.Rounds.{Round, copy_rounds, part_rounds, elements_of}
 use Rattle.dt_kinds.specs.declared.kind.Rep.TheVariants.{Native}
-use Rattle.dt_layout.specs.Body.{Body, loop, Parts, no_parts, part, size}
+use Rattle.dt_layout.specs.Body.{Body, loop, Parts, part, size}
 use Rattle.dt_layout.specs.declared.instr.Instr.{Instr}
 use Rattle.dt_layout.specs.declared.instr.Instr.TheVariants.{End}
 use Rattle.dt_layout.specs.Program.{spellings}

@@ -6,10 +6,10 @@ ghost use Rattle.dt_layout.specs.Body.{Body, size};
 ghost use Rattle.dt_map.specs.declared.entry.Entry as entry;
 
 use crate::finding::descend;
-use crate::frames::Frames;
+use crate::frames::{Frame, Frames};
 use crate::onward::{Next, next_round};
 use dt_kinds::Rep;
-use dt_layout::{CountedCode, Program};
+use dt_layout::{CountedCode, Instr, Program};
 
 /// Into a round, to its first element.
 fn enter(program: &Program, rep: Rep, next: Next, frames: &mut Frames)
@@ -17,6 +17,15 @@ fn enter(program: &Program, rep: Rep, next: Next, frames: &mut Frames)
     ensures { (body : Body) (es : List entry.Entry) → IsToRun program.now (next.frame ∷ frames.old) next.at body next.base es → 0 < size Native body → StandAt program.now frames.new es }
 {
     frames.push(next.frame);
+    if let Instr::One(_) = program.at(next.at) {
+        frames.push(Frame {
+            instr: next.at,
+            turn: 0,
+            base: next.base,
+            copy: 0,
+        });
+        return;
+    }
     let mut code = CountedCode::new(program);
     descend(&mut code, rep, next.at, next.base, 0, frames);
 }

@@ -6,12 +6,14 @@ pub mod cursor;
 mod finding;
 pub mod frames;
 pub mod laws;
+mod level;
 mod onward;
 mod parts;
 mod passing;
 mod spots;
 mod standing;
 mod step;
+mod taking;
 mod totals;
 
 pub use cursor::Cursor;

@@ -67,16 +67,12 @@ fn copy_at(frame: Frame, inside: usize, copied: SpotCopy) -> Next
     requires spot { IsSpot copied.spot }
     requires near { nat_abs (frame.base +ℤ (copied.spot.first +ℤ (pos copied.copy *ℤ copied.spot.step))) < 2 ^ 63 }
     ensures { result ≡ record {
-        frame = record { instr = frame.instr; turn = copied.number; base = frame.base; copy = copied.copy };
-        at = inside;
-        base = frame.base +ℤ (copied.spot.first +ℤ (pos copied.copy *ℤ copied.spot.step));
+      frame = record { instr = frame.instr; turn = copied.number; base = frame.base; copy = copied.copy };
+      at = inside;
+      base = frame.base +ℤ (copied.spot.first +ℤ (pos copied.copy *ℤ copied.spot.step));
     } }
 {
-    let by = along(
-        copied.spot.first,
-        u64::from(copied.copy),
-        copied.spot.step,
-    );
+    let by = along(copied.spot.first, u64::from(copied.copy), copied.spot.step);
     Next {
         frame: Frame {
             instr: frame.instr,
@@ -190,9 +186,7 @@ pub(crate) fn next_round(program: &Program, frame: Frame) -> Option<Next>
 {
     match program.at(frame.instr) {
         Instr::Loop { turns, .. } => next_turn(&turns, frame.instr + 1, frame),
-        Instr::Each { spots, .. } => {
-            next_copy(program, spots, frame.instr + 1 + spots, frame)
-        }
+        Instr::Each { spots, .. } => { next_copy(program, spots, frame.instr + 1 + spots, frame) }
         Instr::Seq { .. } => next_part(program, frame),
         _ => unreachable!(),
     }

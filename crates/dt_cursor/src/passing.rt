@@ -12,6 +12,7 @@ ghost use Rattle.dt_rows.specs.Rows.{bytes_in};
 use crate::climb::climb;
 use crate::frames::{Frame, Frames};
 use crate::step::bytes_of;
+use crate::taking::{left_at, take_left};
 use dt_kinds::{Kind, Rep};
 use dt_layout::{Instr, Program};
 use dt_rows::{Rows, Run};
@@ -37,9 +38,9 @@ fn kind_at(program: &Program, frame: Frame) -> Kind
 /// Bytes of one element.
 fn part_of(kind: Kind, disp: i64, skip: u8, bytes: u64) -> Rows
     ensures { result ≡ record {
-        run = record { kind = kind; disp = disp; elements = 1; skip = skip; bytes = bytes };
-        rows = 1;
-        step = pos 0;
+      run = record { kind = kind; disp = disp; elements = 1; skip = skip; bytes = bytes };
+      rows = 1;
+      step = pos 0;
     } }
 {
     Rows {
@@ -55,18 +56,40 @@ fn part_of(kind: Kind, disp: i64, skip: u8, bytes: u64) -> Rows
     }
 }
 
-/// Takes the element at which frames stand, or what is left of it.
-fn take(program: &Program, rep: Rep, frames: &mut Frames, frame: Frame, kind: Kind, held: u8) -> Rows
+/// Takes rows that begin at the element at which frames stand, or what is left of it, of so many packed bytes and rows at most.
+fn take(
+    program: &Program,
+    rep: Rep,
+    frames: &mut Frames,
+    frame: Frame,
+    kind: Kind,
+    held: u8,
+    most: u64,
+    limit: u64,
+) -> Rows
     requires run { (es : List entry.Entry) × StandAt program.now frames.old es × AreHeld rep held es }
     requires top { slice_get frames.old 0 ≡ Some frame }
     requires kind { slice_get program.now frame.instr ≡ Some (One kind) }
     requires held { held < packed_size rep kind }
+    requires most { packed_size rep kind ≤ held + most }
+    requires limit { 0 < limit }
     ensures taken { (es : List entry.Entry) → StandAt program.now frames.old es → AreHeld rep held es → AreTaken program.now rep es held frames.new result }
-    ensures bytes { held + bytes_in result ≡ packed_size rep kind }
-    ensures rows { result.rows ≡ 1 }
+    ensures most { bytes_in result ≤ most }
+    ensures limit { result.rows ≤ limit }
 {
     frames.pop();
-    part_of(kind, frame.base, held, bytes_of(kind, rep) - u64::from(held))
+    if held > 0 {
+        return part_of(
+            kind,
+            frame.base,
+            held,
+            bytes_of(kind, rep) - u64::from(held),
+        );
+    }
+    let Some(left) = left_at(program, frames, frame) else {
+        return part_of(kind, frame.base, 0, bytes_of(kind, rep));
+    };
+    take_left(rep, frames, frame, kind, left, most, limit)
 }
 
 /// Names what comes next, of so many bytes and rows at most, and passes it.
@@ -98,7 +121,7 @@ pub(crate) fn pass(
             held: held + most as u8,
         });
     }
-    let rows = take(program, rep, frames, frame, kind, held);
+    let rows = take(program, rep, frames, frame, kind, held, most, limit);
     climb(program, rep, frames);
     Some(Passed { rows, held: 0 })
 }

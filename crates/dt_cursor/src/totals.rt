@@ -53,9 +53,7 @@ fn body_total(program: &Program, rep: Rep) -> u64
     match program.at(0) {
         Instr::One(kind) => bytes_of(kind, rep),
         Instr::Loop { turns, sizes, .. } => turns.count * size_by(sizes, rep),
-        Instr::Each { spots, sizes, .. } => {
-            spots_total(program, 1, spots, size_by(sizes, rep))
-        }
+        Instr::Each { spots, sizes, .. } => { spots_total(program, 1, spots, size_by(sizes, rep)) }
         Instr::Seq { .. } => parts_total(program, rep, 1),
         Instr::Spot(_) | Instr::End => unreachable!(),
     }

@@ -44,8 +44,8 @@ pub fn span_inside(ty: &Datatype, count: u32, origin: i64, len: usize) -> bool
     !has_elements(ty, count) || copies_inside(ty, count - 1, origin, len)
 }
 
-/// How many bytes the elements of one copy have in a representation.
-pub(crate) fn copy_size(ty: &Datatype, rep: Rep) -> u64
+/// How many packed bytes one copy has in a representation. It takes no memory.
+pub fn copy_size(ty: &Datatype, rep: Rep) -> u64
     ensures { result ≡ total rep (entries_of ty.now) }
 {
     match rep {

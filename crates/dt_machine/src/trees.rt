@@ -1,6 +1,5 @@
 //! Commands on trees: `weights LEAF VECTOR INDEX PLACE GROUP PART`, `normalise TYPE`, `rebuild NAME = TYPE`.
-ghost use Rattle.std.specs.Prelude.{◌≡◌, ◌≤◌, ℤ, nat_abs, IfOk, Decides, MatchOption, MatchResult, length};
-ghost use Rattle.std.specs.Option.{option_map};
+ghost use Rattle.std.specs.Prelude.{◌≡◌, ◌≤◌, nat_abs, IfOk, Decides, MatchOption, MatchResult, length};
 ghost use Rattle.dt_machine.specs.Best.{IsWithout, tree_in};
 ghost use Rattle.dt_machine.specs.Choice.{AreTooWide, AreWeights, IsWeight, text_told, weights_by};
 ghost use Rattle.dt_machine.specs.Outcome.{ComesTo};

@@ -1,6 +1,5 @@
 -- What holds of a session as it is opened.
-use Rattle.std.proofs.Common.{◌≡◌, ℕ, ◌*◌, ◌^◌, ◌≤◌, ℤ, pos, ◌+ℤ◌, List, [], ◌∷◌, sym, ap, ◌∙◌, arith, lit≤}
-use Rattle.std.proofs.lemmas.Int.{ints}
+use Rattle.std.proofs.Common.{◌*◌, ◌^◌, ◌≤◌, List, [], ◌∷◌, arith, lit≤}
 use Rattle.std.proofs.lemmas.List.Sums.{sum_by-cons}
 use Rattle.dt_kinds.specs.declared.kind.Kind.{Kind}
 use Rattle.dt_kinds.specs.declared.kind.Kind.TheVariants.{Byte}
@@ -8,17 +7,7 @@ use Rattle.dt_kinds.specs.declared.kind.Rep.{Rep}
 use Rattle.dt_kinds.specs.declared.kind.Rep.TheVariants.{Native, External32}
 use Rattle.dt_kinds.specs.Kind.{native_size, external_size, packed_size}
 use Rattle.dt_map.specs.declared.entry.Entry.{Entry}
-use Rattle.dt_map.specs.Elements.{elements}
 use Rattle.dt_map.specs.Packed.{total}
-use Rattle.dt_map.specs.Typemap.{Marked, shift}
-use Rattle.dt_map.proofs.Copies.{elements_are_placed}
-use Rattle.dt_map.proofs.Placings.{shift-shift}
-
--- the elements of an operation that begins at 0, moved to where it begins
-pub placed_elements : (m : Marked) (count : ℕ) (origin : ℤ) → shift origin (elements m count (pos 0)) ≡ elements m count origin
-placed_elements m count origin =
-    let same : pos 0 +ℤ origin ≡ origin = omega (arith, ints) in
-    ap (shift origin) (elements_are_placed m count (pos 0)) ∙ shift-shift origin (pos 0) _ ∙ ap (λ x. shift x _) same ∙ sym (elements_are_placed m count origin)
 
 -- an element has at most twice as many bytes in memory as in external32
 twice_external : (kind : Kind) → native_size kind ≤ 2 * external_size kind

@@ -1,9 +1,9 @@
 -- The packed bytes that come next of elements, by the rows that a walk names.
 use borrow.Rule.Slice.PartMut.{put_mid}
-use Rattle.std.proofs.Common.{◌≡◌, ℕ, ◌+◌, ◌-◌, ◌≤◌, ◌<◌, true, ℤ, List, ◌++◌, take, drop, length, sym, ap, ◌∙◌, arith, append_assoc, length-append, length-drop}
+use Rattle.std.proofs.Common.{min, ◌≡◌, ℕ, ◌+◌, ◌-◌, ◌≤◌, ◌<◌, true, ℤ, List, ◌++◌, take, drop, length, [], sym, ap, ◌∙◌, arith, append-nil, append_assoc, length-append, length-drop}
 use Rattle.std.proofs.lemmas.Bool.{and_parts}
 use Rattle.std.proofs.lemmas.Grind.{flat_map-append}
-use Rattle.std.proofs.lemmas.List.{take-append-le, drop-append-le, take_all, drop_at, drop-drop, length-take-le}
+use Rattle.std.proofs.lemmas.List.{take-append-le, drop-append-le, drop_all, take_all, take_at, drop_at, drop-drop, length-take-le}
 use Rattle.std.proofs.lemmas.List.Folds.{list_all-append}
 use Rattle.std.proofs.Math.Seq.{drop-append-add}
 use Rattle.dt_cursor.specs.Walk.{Walk, AreNext}
@@ -21,6 +21,7 @@ use Rattle.dt_rows.specs.declared.rows.Rows.{Rows}
 use Rattle.dt_rows.specs.Rows.{elements_of_rows, bytes_in, packed_rows}
 use Rattle.dt_rows.proofs.Filling.{last_written}
 use Rattle.dt_rows.proofs.Joined.{take_further}
+use Rattle.dt_rows.proofs.SettingRows.{drop_none}
 use Rattle.dt_rows.proofs.Totals.{bytes_within, some_bytes}
 
 packed-append : (rep : Rep) (es fs : List Entry) (buffer : List ℕ) → packed rep (es ++ fs) buffer ≡ packed rep es buffer ++ packed rep fs buffer
@@ -118,3 +119,16 @@ to_come_more s now count n moved some more = let left = ap rest_of moved in omeg
 
 pub within_more : (old mid : List ℕ) (count n : ℕ) → length mid ≡ length old → count ≤ length old → n ≤ length (take (length mid - count) (drop count mid)) → count + n ≤ length old
 within_more old mid count n same some more = omega (arith, same, some, more, length-take-le (length mid - count) (drop count mid) (omega (arith, length-drop count mid)))
+
+-- a take of all packed bytes
+pub whole_taken : (s : Session) (buffer old new items : List ℕ) (n len : ℕ) → are_inside (length buffer) (placed s) ≡ true → s.position ≡ 0 → length old ≡ total_of s → len ≡ total_of s
+    → n ≡ min (length old) (rest_of s) → new ≡ next_bytes s buffer n ++ drop n old → length new ≡ len → take len (new ++ drop (length new) items) ≡ packed s.rep (placed s) buffer
+whole_taken s buffer old new items n len inside start room all count bytes long =
+    let images = packed s.rep (placed s) buffer in
+    let total_is = packed_has_total s.rep (placed s) buffer inside ∙ total-shift s.rep s.origin s.elements in
+    let whole : n ≡ total_of s = omega (arith, count, room, start) in
+    let rest : drop n old ≡ [] = drop_all n old (omega (arith, whole, room)) in
+    let first : next_bytes s buffer n ≡ images =
+    ap (λ p. take n (drop p images)) start ∙ ap (take n) (drop_none images) ∙ take_all n images (omega (arith, total_is, whole)) in
+    take_at new (drop (length new) items) len long
+    ∙ bytes ∙ ap (λ t. next_bytes s buffer n ++ t) rest ∙ append-nil (next_bytes s buffer n) ∙ first

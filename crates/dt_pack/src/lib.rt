@@ -3,7 +3,9 @@
 
 pub mod fault;
 pub mod session;
+mod whole;
 
 pub use dt_cursor::Cursor;
 pub use fault::PackFault;
 pub use session::{PACKED_MAX, PackSession};
+pub use whole::packed_bytes;

@@ -21,7 +21,7 @@ fewer a b e lt =
       | inr from ↦ (let more = mul-le b e a e from (omega arith) in absurd (omega (arith, lt, more)))
     ]
 
-no_more : (a b e : ℕ) → 0 < e → a * e ≤ b * e → a ≤ b
+pub no_more : (a b e : ℕ) → 0 < e → a * e ≤ b * e → a ≤ b
 no_more a b e some le =
     elim (cases_lt b a) [
       | inr from ↦ from

@@ -47,7 +47,7 @@ element_inside len r origin i j all row within =
     all_below (λ j. p (element_at kind (on j))) r.run.elements j by_element within
 
 -- an element that lies inside lies there as numbers say
-bounds_of_inside : (len : ℕ) (e : Entry) → lies_inside len e ≡ true → (pos 0 ≤ℤ e.disp) × ((e.disp +ℤ pos (native_size e.kind)) ≤ℤ pos len)
+pub bounds_of_inside : (len : ℕ) (e : Entry) → lies_inside len e ≡ true → (pos 0 ≤ℤ e.disp) × ((e.disp +ℤ pos (native_size e.kind)) ≤ℤ pos len)
 bounds_of_inside len e inside =
     let parts = and_parts (int_le (pos 0) e.disp) (int_le (end_of e) (pos len)) inside in
     (grind (arith, ints, parts.0), grind (arith, ints, parts.1))

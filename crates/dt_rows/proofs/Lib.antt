@@ -4,6 +4,9 @@ pub mod Filling
 pub mod Gathering
 pub mod InsideRows
 pub mod Joined
+pub mod Operation
 pub mod Packing
 pub mod RowBytes
+pub mod SettingRows
+pub mod Stored
 pub mod Totals

@@ -25,7 +25,7 @@ total_of_kind rep kind (x ∷ xs) =
     let rest = total_of_kind rep kind xs in
     omega (arith, rest, sum_by-cons (λ (e : Entry). packed_size rep e.kind) (element_at kind x) (map (element_at kind) xs))
 
-total_of_adjacent : (rep : Rep) (kind : Kind) (n : ℕ) (x : ℤ) → total rep (adjacent kind n x) ≡ n * packed_size rep kind
+pub total_of_adjacent : (rep : Rep) (kind : Kind) (n : ℕ) (x : ℤ) → total rep (adjacent kind n x) ≡ n * packed_size rep kind
 total_of_adjacent rep kind n x =
     total_of_kind rep kind (row_offsets x n (pos (native_size kind))) ∙ ap (λ k. k * packed_size rep kind) (length-row_offsets x n (pos (native_size kind)))
 

@@ -21,7 +21,7 @@ fn is_whole(run: Run) -> bool
 }
 
 /// Where the first element lies.
-fn start_of(rep: Rep, rows: &Rows, origin: i64, buffer: &[u8]) -> i64
+pub(crate) fn start_of(rep: Rep, rows: &Rows, origin: i64, buffer: &[u8]) -> i64
     requires shape { AreRows rep rows.now }
     requires inside { IsTrue (are_inside (length buffer.now) (shift origin (elements_of_rows rows.now))) }
     requires near { length buffer.now < 2 ^ 63 }
@@ -95,7 +95,8 @@ fn gather_external(rows: &Rows, origin: i64, buffer: &[u8], out: &mut [u8])
 }
 
 /// Puts the packed bytes that rows name, of the elements that lie in the buffer from an origin on, to the front of `out` (MPI 4.1,
-/// sections 5.2 and 14.5.2). The rest of `out` stays. It takes no memory.
+/// sections 5.2 and 14.5.2). The rest of `out` stays. Buffer and packed bytes are fewer than 2^63, as all that memory holds. It takes
+/// no memory.
 pub fn gather(rep: Rep, rows: &Rows, origin: i64, buffer: &[u8], out: &mut [u8])
     requires shape { AreRows rep rows.now }
     requires inside { IsTrue (are_inside (length buffer.now) (shift origin (elements_of_rows rows.now))) }

@@ -3,10 +3,14 @@
 
 mod external;
 mod from_buffer;
+mod into_buffer;
 mod piece;
 mod pieces;
 pub mod rows;
+mod store;
+mod stores;
 mod turned;
 
 pub use from_buffer::gather;
+pub use into_buffer::scatter;
 pub use rows::{Rows, Run};

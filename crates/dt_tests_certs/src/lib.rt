@@ -1,5 +1,9 @@
-//! The tests of tables that show that a tree is least. Their expected values were worked by hand, never taken from a run of the code.
+//! The tests of certificates, and of the tables in them. Their expected values were worked by hand, never taken from a run of the code.
 #![tactic(auto)]
 
 #[cfg(test)]
+mod judged;
+#[cfg(test)]
 mod tables;
+#[cfg(test)]
+mod written;

@@ -4,7 +4,7 @@ ghost use Rattle.std.specs.List.{All};
 ghost use Rattle.dt_check.specs.Members.{IsMember};
 
 use dt_alike::Classes;
-use dt_check::{Segment, first_failing};
+use dt_check::{Segment, first_failing, first_failing_of_classes};
 use dt_kinds::{Kind, NoMemory};
 use dt_map::{Entry, FlatMap};
 use dt_normal::Low;
@@ -13,7 +13,7 @@ use std::alloc::Global;
 use std::test::Fail;
 
 /// Ints at some places; none where a place is out of range.
-fn ints_at(alloc: Global, places: &[i64]) -> Result<Option<FlatMap>, NoMemory> {
+pub(crate) fn ints_at(alloc: Global, places: &[i64]) -> Result<Option<FlatMap>, NoMemory> {
     let mut entries = Vec::with_capacity(alloc, places.len())?;
     for disp in places {
         entries.push(Entry {
@@ -25,7 +25,7 @@ fn ints_at(alloc: Global, places: &[i64]) -> Result<Option<FlatMap>, NoMemory> {
 }
 
 /// A table's list, of the members that name a segment.
-fn table(
+pub(crate) fn table(
     alloc: Global,
     classes: &Classes,
     members: &[(u32, u32, u64)],
@@ -63,10 +63,10 @@ fn failing_at(
 }
 
 /// Three ints, 8 bytes apart.
-const EVEN: [i64; 3] = [0, 8, 16];
+pub(crate) const EVEN: [i64; 3] = [0, 8, 16];
 
 /// What the least trees of all their segments cost.
-const WHOLE: [(u32, u32, u64); 6] = [
+pub(crate) const WHOLE: [(u32, u32, u64); 6] = [
     (0, 1, 1),
     (1, 2, 1),
     (2, 3, 1),
@@ -171,5 +171,28 @@ fn blocks_in_a_group(rt: HostRuntime) -> Result<(), Fail> {
     let alloc = rt.alloc();
     assert!(rt; failing_with(alloc, 8)?.is_none());
     assert!(rt; failing_with(alloc, 9)? == Some(Segment { from: 0, to: 5 }));
+    Ok(())
+}
+
+/// The first segment at which a table over three ints fails, where each segment has the value of its class.
+fn failing_class(alloc: Global, members: &[(u32, u32, u64)]) -> Result<Option<Segment>, NoMemory> {
+    let Some(map) = ints_at(alloc, &EVEN)? else {
+        return Ok(None);
+    };
+    if map.entries().len() > 1024 {
+        return Ok(None);
+    }
+    let classes = Classes::of(alloc, &map)?;
+    let lows = table(alloc, &classes, members)?;
+    first_failing_of_classes(alloc, &classes, &Weights::default(), &lows)
+}
+
+/// One value for each class says as much as all six; and where the single ints have none, the first pair fails.
+#[test]
+fn values_of_classes(rt: HostRuntime) -> Result<(), Fail> {
+    let alloc = rt.alloc();
+    let classes = [(0, 1, 1), (0, 2, 4), (0, 3, 4)];
+    assert!(rt; failing_class(alloc, &classes)?.is_none());
+    assert!(rt; failing_class(alloc, &classes[1..])? == Some(Segment { from: 0, to: 2 }));
     Ok(())
 }

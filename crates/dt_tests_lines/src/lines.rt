@@ -265,6 +265,31 @@ const OTHER_ARRAYS: [&[u8]; 22] = [
     b"type n = darray 2 0 c t 5:block:-:2147483648",
 ];
 
+/// Lines on trees: a word too few or too many, and a number that is none or out of range.
+const OTHER_TREES: [&[u8]; 12] = [
+    b"weights",
+    b"weights 1 2 3 4 5",
+    b"weights 1 2 3 4 5 6 7",
+    b"weights 1 2 3 4 5 x",
+    b"weights 1 2 3 -2147483649 5 6",
+    b"weights 1 2 3 4 5 2147483648",
+    b"normalise",
+    b"normalise a b",
+    b"rebuild n t",
+    b"rebuild n =",
+    b"rebuild n = t u",
+    b"rebuild n = 1",
+];
+
+/// The same, spelled as they are read.
+const TREES: [&[u8]; 5] = [
+    b"weights 0 1 2 3 4 5",
+    b"weights -2147483648 2147483647 -1 1000000 1000001 0",
+    b"normalise MPI_INT",
+    b"rebuild n = t",
+    b"rebuild MPI_n = MPI_INT",
+];
+
 /// Lines with the least and the greatest numbers and the longest names, spelled as they are read.
 const AS_THEY_STAND: [&[u8]; 23] = [
     b"info a",
@@ -422,6 +447,7 @@ fn lines_in_no_form(rt: HostRuntime) -> Result<(), Fail> {
         OTHER_PARTS.as_slice(),
         OTHER_HANDLES.as_slice(),
         OTHER_ARRAYS.as_slice(),
+        OTHER_TREES.as_slice(),
     ] {
         let other = other_line(rt.alloc(), lines, b"syntax")?;
         assert!(rt; other.is_none(), "{other:?}");
@@ -445,6 +471,7 @@ fn lines_with_commands(rt: HostRuntime) -> Result<(), Fail> {
         AS_THEY_STAND.as_slice(),
         DEFINITIONS.as_slice(),
         ARRAYS.as_slice(),
+        TREES.as_slice(),
     ] {
         let other = respelt(rt.alloc(), lines)?;
         assert!(rt; other.is_none(), "{other:?}");

@@ -2,7 +2,9 @@
 
 use crate::typemaps::{Entries, typemap};
 use dt_kinds::{Kind, NoMemory};
-use dt_reply::{Refusal, info_line, map_line, ok_line, packed_line, refusal_line, shown_line};
+use dt_reply::{
+    Refusal, info_line, map_line, ok_line, packed_line, refusal_line, shown_line, tree_line,
+};
 use std::alloc::Global;
 use std::test::Fail;
 
@@ -75,6 +77,14 @@ fn lines_of_bytes(rt: HostRuntime) -> Result<(), Fail> {
     assert!(rt; ok_line() == b"ok\n".as_slice());
     let other = other_bytes(rt.alloc(), &BYTES)?;
     assert!(rt; other.is_none(), "{other:?}");
+    Ok(())
+}
+
+#[test]
+fn lines_of_trees(rt: HostRuntime) -> Result<(), Fail> {
+    let line = tree_line(rt.alloc(), u64::MAX, i64::MIN, b"leaf MPI_INT")?;
+    let wanted = b"tree cost 18446744073709551615 base -9223372036854775808 leaf MPI_INT\n";
+    assert!(rt; line.as_slice() == wanted.as_slice());
     Ok(())
 }
 

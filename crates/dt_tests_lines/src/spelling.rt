@@ -52,7 +52,28 @@ fn push_command(alloc: Global, out: &mut Vec<u8>, command: &Command) -> Result<(
             push_word(out, buffer.as_bytes())?;
             push_number(out, *origin)
         }
+        Command::Weights {
+            leaf,
+            vector,
+            index,
+            place,
+            group,
+            part,
+        } => push_weights(out, &[*leaf, *vector, *index, *place, *group, *part]),
+        Command::Normalise { ty } => push_query(out, b"normalise", ty),
+        Command::Rebuild { name, ty } => {
+            push_query(out, b"rebuild", name)?;
+            push_query(out, b" =", ty)
+        }
     }
+}
+
+fn push_weights(out: &mut Vec<u8>, weights: &[i32]) -> Result<(), AllocError> {
+    out.extend_from_slice(b"weights")?;
+    for weight in weights {
+        push_number(out, i64::from(*weight))?;
+    }
+    Ok(())
 }
 
 fn representation(rep: Rep) -> &'static [u8] {

@@ -170,12 +170,12 @@ fn nest_of_parts(alloc: Global) -> Result<Datatype, Fail> {
     Ok(old)
 }
 
-/// The innermost byte: a frame for the copies, two for each of 63 levels (its parts, and the one that is run), and the element's.
+/// The innermost byte: a frame for the two copies, two for each of 63 levels (its parts, and the one that is run), and the element's.
 #[test]
 fn the_most_frames(rt: HostRuntime) -> Result<(), Fail> {
     let alloc = rt.alloc();
     let deep = nest_of_parts(alloc)?;
-    let program = program_of(alloc, &deep, 1)?;
+    let program = program_of(alloc, &deep, 2)?;
     let mut frames = Frames::new();
     find(&mut CountedCode::new(&program), Rep::Native, 0, &mut frames);
     assert!(rt; frames.len() == 128, "{}", frames.len());

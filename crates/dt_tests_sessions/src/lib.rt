@@ -5,10 +5,16 @@
 #[cfg(test)]
 mod counts;
 #[cfg(test)]
+mod cursors;
+#[cfg(test)]
 mod finding;
 #[cfg(test)]
 mod images;
 #[cfg(test)]
 mod overlapping;
 #[cfg(test)]
+mod packing;
+#[cfg(test)]
 mod programs;
+#[cfg(test)]
+mod unpacking;

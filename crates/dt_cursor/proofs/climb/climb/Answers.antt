@@ -1,5 +1,4 @@
-use Rattle.std.specs.Prelude.{◌∷◌}
-use Rattle.std.proofs.Common.{List, length, ap, subst, ◌∙◌, sym}
+use Rattle.std.proofs.Common.{length, subst}
 use Rattle.dt_cursor.specs.Frames.{ToCome}
 use Rattle.dt_cursor.proofs.Climbing.{ends, goes_on}
 use Rattle.dt_cursor.proofs.Options.{none_is}

@@ -1,10 +1,9 @@
-use Rattle.std.proofs.Common.{◌≡◌, ◌+◌, ◌<◌, Some, length, slice_get, arith, ap, subst, ◌∙◌, sym}
+use Rattle.std.proofs.Common.{◌≡◌, ◌+◌, ◌<◌, arith, ap, subst, ◌∙◌, sym}
 use Rattle.std.proofs.lemmas.Option.{slice_get_within}
 use Rattle.dt_cursor.proofs.Halfway.{half_copy, inside_of}
-use Rattle.dt_cursor.proofs.NextRounds.{as_place, copy_last, half_spots, half_got, half_within, other_near, other_next, same_near, same_next}
+use Rattle.dt_cursor.proofs.NextRounds.{as_place, copy_last, half_spots, half_got, other_near, other_next, same_near, same_next}
 use Rattle.dt_cursor.proofs.Options.{is_none}
 use Rattle.dt_cursor.proofs.SpotCopies.{spot_lawful}
-use Rattle.dt_layout.specs.Body.{each}
 use Rattle.dt_offsets.specs.declared.turns.Spot.{Spot}
 use Rattle.dt_cursor.proofs.onward.next_copy.Goals as goal
 

@@ -1,10 +1,9 @@
-use Rattle.std.proofs.Common.{◌≡◌, ◌+◌, ◌<◌, ℕ, refl, arith, ap, subst, ◌∙◌, sym}
-use Rattle.dt_cursor.specs.Onward.{AreParts, HaveNoElements, IsPartFrom, IsLast}
+use Rattle.std.proofs.Common.{ℕ, refl, subst, sym}
+use Rattle.dt_cursor.specs.Onward.{AreParts, HaveNoElements, IsPartFrom}
 use Rattle.dt_cursor.proofs.Halfway.{half_part, part_passed}
 use Rattle.dt_cursor.proofs.NextRounds.{as_next, frame_back, part_last, part_next}
 use Rattle.dt_cursor.proofs.Options.{is_none}
-use Rattle.dt_layout.specs.Body.{Body, Parts, seq, part, no_parts, width}
-use Rattle.dt_offsets.specs.declared.turns.Turns.{Turns}
+use Rattle.dt_layout.specs.Body.{seq, no_parts}
 use Rattle.dt_cursor.proofs.onward.next_part.Goals as goal
 
 pub after_loop-after-requires : goal.after_loop-after-requires

@@ -1,10 +1,7 @@
-use Rattle.std.proofs.Common.{◌≡◌, ◌+◌, ◌<◌, Some, List, length, arith, ap, subst, ◌∙◌, sym}
+use Rattle.std.proofs.Common.{Some, ap, subst, ◌∙◌}
 use Rattle.dt_cursor.specs.Frames.{IsHalfRun}
-use Rattle.dt_cursor.specs.Onward.{IsLast, IsNextOf}
-use Rattle.dt_cursor.specs.Rounds.{Round, elements_of}
-use Rattle.dt_cursor.proofs.NextRounds.{half_each, half_loop, half_read, half_seq, half_within}
+use Rattle.dt_cursor.proofs.NextRounds.{half_each, half_loop, half_read, half_seq}
 use Rattle.dt_cursor.proofs.Options.{if_none, if_some}
-use Rattle.dt_layout.specs.Body.{Body, loop, each, seq}
 use Rattle.dt_cursor.proofs.onward.next_round.Goals as goal
 
 pub unreachable-requires : goal.unreachable-requires

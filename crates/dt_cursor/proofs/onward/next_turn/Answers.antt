@@ -1,6 +1,6 @@
 use mir.Syntax.{w64, w128}
 use mir.Val.{to_z, of_z}
-use Rattle.std.proofs.Common.{◌≡◌, ◌+◌, ◌<◌, ◌+ℤ◌, nat_abs, arith, ap, ◌∙◌, subst, sym}
+use Rattle.std.proofs.Common.{◌+◌, ◌<◌, ◌+ℤ◌, nat_abs, arith, ap, ◌∙◌, subst, sym}
 use Rattle.dt_offsets.specs.Offsets.{turn_offset}
 use Rattle.dt_layout.specs.Body.{loop}
 use Rattle.dt_cursor.proofs.Halfway.{half_turn}

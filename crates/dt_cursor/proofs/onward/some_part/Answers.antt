@@ -1,10 +1,11 @@
 use Rattle.std.specs.Prelude.{◌⊎◌}
-use Rattle.std.proofs.Common.{◌≡◌, ◌+◌, ◌*◌, ◌<◌, ◌≤◌, ℕ, Some, length, slice_get, arith, ap, subst, ◌∙◌, sym, inl, inr}
+use Rattle.std.proofs.Common.{◌≡◌, ◌*◌, ◌<◌, ◌≤◌, Some, arith, ap, subst, ◌∙◌, sym}
+use Rattle.std.proofs.Math.Nat.{mul-pos}
 use Rattle.dt_cursor.specs.Onward.{AreParts, HaveNoElements}
 use Rattle.dt_cursor.proofs.Halfway.{part_passed}
-use Rattle.dt_cursor.proofs.NextRounds.{loop_part, parts_within, part_skipped, none_skipped, parts_end, product_some, product_none}
+use Rattle.dt_cursor.proofs.NextRounds.{loop_part, parts_within, part_skipped, none_skipped, parts_end, product_none}
 use Rattle.dt_kinds.specs.declared.kind.Rep.TheVariants.{Native}
-use Rattle.dt_layout.specs.Body.{Parts, size, sizes_of}
+use Rattle.dt_layout.specs.Body.{size}
 use Rattle.dt_layout.specs.declared.instr.Sizes.{Sizes}
 use Rattle.dt_cursor.proofs.onward.some_part.Goals as goal
 
@@ -27,7 +28,7 @@ returns-then-sizes-gt0-clause-some c parts are =
       body = there.0;
       rest = there.1;
       skipped = subst (HaveNoElements c.args.from parts c.parts.place) there.2 is.2;
-      some = product_some c.in-Loop.turns.count (size Native there.0) c.if-turns-gt0.true (subst (λ n. 0 < n) bytes c.if-sizes-gt0.true);
+      some = mul-pos c.if-turns-gt0.true (subst (λ n. 0 < n) bytes c.if-sizes-gt0.true);
     }
 
 pub parts-smaller : goal.parts-smaller

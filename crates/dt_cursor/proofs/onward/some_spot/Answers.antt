@@ -1,4 +1,4 @@
-use Rattle.std.proofs.Common.{◌≡◌, ◌+◌, ◌<◌, Some, length, get_or, refl, arith, ap, subst, ◌∙◌, sym}
+use Rattle.std.proofs.Common.{◌<◌, Some, length, get_or, refl, arith, ap, ◌∙◌, sym}
 use Rattle.std.proofs.lemmas.Option.{slice_get-get_or}
 use Rattle.dt_cursor.proofs.NextRounds.{spot_skipped}
 use Rattle.dt_cursor.proofs.SpotCopies.{no_spot, spot_read, spot_got}

@@ -1,4 +1,4 @@
-use Rattle.std.proofs.Common.{◌≡◌, ◌+◌, ◌<◌, arith, ap, subst, ◌∙◌, sym}
+use Rattle.std.proofs.Common.{◌+◌, arith, ap, subst, ◌∙◌, sym}
 use Rattle.dt_cursor.specs.Ahead.{ArePassed}
 use Rattle.dt_cursor.proofs.Named.{back_here, elements_here, held_here, is_here, part_passed, part_rows, taken_passed}
 use Rattle.dt_cursor.proofs.passing.pass.Goals as goal

@@ -1,12 +1,10 @@
-use Rattle.std.proofs.Common.{◌≡◌, ◌+◌, ◌*◌, ◌<◌, ◌≤◌, Some, length, refl, arith, ap, subst, ◌∙◌, sym}
+use Rattle.std.proofs.Common.{◌*◌, Some, length, arith, ap, subst, ◌∙◌, sym}
 use Rattle.dt_cursor.specs.Search.{size_in}
 use Rattle.dt_cursor.proofs.Narrowing.{size_is}
 use Rattle.dt_cursor.proofs.NextRounds.{seq_here}
 use Rattle.dt_cursor.proofs.Reading.{each_here, ends_within, loop_here, one_here, spots_here}
 use Rattle.dt_cursor.proofs.Sums.{no_spot_here, placed_at_zero, program_head, program_parts, size_small, some_code}
-use Rattle.dt_kinds.specs.declared.kind.Rep.TheVariants.{Native}
-use Rattle.dt_layout.specs.Body.{loop, each, seq, size}
-use Rattle.dt_layout.specs.declared.instr.Instr.TheVariants as variants
+use Rattle.dt_layout.specs.Body.{each, seq, size}
 use Rattle.dt_layout.specs.Program.{IsProgram}
 use Rattle.dt_offsets.specs.Offsets.{spot_offsets}
 use Rattle.dt_cursor.proofs.totals.body_total.Goals as goal
@@ -27,9 +25,12 @@ spots_total-requires-clause-spots c =
     let r = c.requires.program in
     let there = each_here 0 r.0 c.in-Each.spots c.in-Each.sizes c.in-Each.next (program_head c.args.program.now r.0 r.1 _ (c.at.ensures ∙ ap Some c.in-Each.is)) in
     let is = subst (IsProgram c.args.program.now) there.2 r.1 in
-    let here = ap (λ n. length (spot_offsets there.0) * n) (c.size_by-in-Each.ensures ∙ ap (size_in c.args.rep) there.4 ∙ size_is c.args.rep there.1) in
-    (there.0, spots_here c.args.program.now 0 there.0 there.1 _ (placed_at_zero c.args.program.now (each there.0 there.1) is), there.3,
-    omega (arith, here, size_small c.args.program.now (each there.0 there.1) is c.args.rep))
+    let here = ap (λ n. length (spot_offsets there.0) * n) (c.size_by-in-Each.ensures ∙ ap (size_in c.args.rep) there.4 ∙ size_is c.args.rep there.1) in (
+      there.0,
+      spots_here c.args.program.now 0 there.0 there.1 _ (placed_at_zero c.args.program.now (each there.0 there.1) is),
+      there.3,
+      omega (arith, here, size_small c.args.program.now (each there.0 there.1) is c.args.rep),
+    )
 
 pub spots_total-requires-clause-fits : goal.spots_total-requires-clause-fits
 spots_total-requires-clause-fits c =

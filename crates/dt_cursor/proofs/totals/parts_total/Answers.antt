@@ -1,10 +1,10 @@
-use Rattle.std.proofs.Common.{◌≡◌, ◌+◌, ◌*◌, ◌<◌, ◌≤◌, Some, length, refl, arith, ap, subst, ◌∙◌, sym}
+use Rattle.std.proofs.Common.{◌*◌, Some, arith, ap, subst, ◌∙◌, sym}
 use Rattle.dt_cursor.specs.Onward.{AreParts}
 use Rattle.dt_cursor.specs.Search.{size_in}
 use Rattle.dt_cursor.proofs.Halfway.{part_passed}
 use Rattle.dt_cursor.proofs.Narrowing.{size_is}
 use Rattle.dt_cursor.proofs.NextRounds.{loop_part, parts_end, parts_within}
-use Rattle.dt_layout.specs.Body.{size, sizes}
+use Rattle.dt_layout.specs.Body.{sizes}
 use Rattle.dt_cursor.proofs.totals.parts_total.Goals as goal
 
 pub parts-init : goal.parts-init

@@ -1,6 +1,5 @@
-use Rattle.std.proofs.Common.{◌≡◌, ◌+◌, ◌*◌, ◌<◌, ◌≤◌, Some, length, drop, get_or, refl, arith, ap, subst, ◌∙◌, sym}
+use Rattle.std.proofs.Common.{◌*◌, ◌<◌, Some, length, get_or, arith, ap, ◌∙◌, sym}
 use Rattle.std.proofs.lemmas.Option.{slice_get-get_or}
-use Rattle.dt_offsets.specs.Offsets.{spot_offsets}
 use Rattle.dt_cursor.proofs.SpotCopies.{no_spot, spot_read, spot_got}
 use Rattle.dt_cursor.proofs.Sums.{spots_end, spots_from, add_times}
 use Rattle.dt_cursor.proofs.totals.spots_total.Goals as goal

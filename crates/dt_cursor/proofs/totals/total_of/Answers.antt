@@ -1,4 +1,4 @@
-use Rattle.std.proofs.Common.{◌≡◌, ◌<◌, length, arith, ap, ◌∙◌, sym}
+use Rattle.std.proofs.Common.{arith, ◌∙◌}
 use Rattle.dt_cursor.proofs.Sums.{some_code, size_of_program}
 use Rattle.dt_cursor.proofs.totals.total_of.Goals as goal
 

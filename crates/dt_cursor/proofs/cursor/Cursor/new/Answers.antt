@@ -1,5 +1,5 @@
 use Rattle.std.specs.Prelude.{pos}
-use Rattle.std.proofs.Common.{◌≡◌, refl, arith, ap, subst, ◌∙◌, sym}
+use Rattle.std.proofs.Common.{refl, arith, subst, ◌∙◌, sym}
 use Rattle.dt_cursor.specs.Search.{IsFound}
 use Rattle.dt_cursor.proofs.Keeping.{kept, stand_kept, walk_at}
 use Rattle.dt_layout.specs.Body.{meaning}

@@ -1,10 +1,9 @@
-use Rattle.std.proofs.Common.{◌≡◌, ◌+◌, ◌*◌, ap, subst, ◌∙◌, sym}
+use Rattle.std.proofs.Common.{ap, subst, ◌∙◌, sym}
 use Rattle.dt_cursor.specs.Ahead.{ArePassed}
 use Rattle.dt_cursor.specs.Frames.{StandAt}
 use Rattle.dt_cursor.specs.Search.{IsFound}
 use Rattle.dt_cursor.specs.Walk.{Walk, further}
-use Rattle.dt_cursor.proofs.Keeping.{found_on, kept, next_named, stand_kept, walk_at}
-use Rattle.dt_layout.specs.Program.{StandsFor}
+use Rattle.dt_cursor.proofs.Keeping.{found_on, kept, stand_kept, walk_at}
 use Rattle.dt_rows.specs.Rows.{bytes_in}
 use Rattle.dt_cursor.proofs.cursor.Cursor.next.Goals as goal
 

@@ -1,4 +1,4 @@
-use Rattle.std.proofs.Common.{◌≡◌, ap, subst, ◌∙◌, sym}
+use Rattle.std.proofs.Common.{ap, subst, ◌∙◌, sym}
 use Rattle.dt_cursor.specs.Search.{IsFound}
 use Rattle.dt_cursor.specs.Walk.{Walk}
 use Rattle.dt_cursor.proofs.Keeping.{kept, stand_kept, walk_at}

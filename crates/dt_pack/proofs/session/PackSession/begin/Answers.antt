@@ -6,7 +6,7 @@ use Rattle.dt_map.specs.Elements.{elements, are_inside}
 use Rattle.dt_map.specs.Packed.{total}
 use Rattle.dt_map.specs.Typemap.{shift}
 use Rattle.dt_type.specs.Datatype.{typemap_of}
-use Rattle.dt_pack.proofs.Opening.{placed_elements}
+use Rattle.dt_rows.proofs.Operation.{placed_elements}
 use Rattle.dt_pack.proofs.session.PackSession.begin.Goals as goal
 
 pub invariant_of-result : goal.invariant_of-result

@@ -1,0 +1,5 @@
+pub mod Comparing
+pub mod Composing
+pub mod Joins
+pub mod Listed
+pub mod Showing
