@@ -134,7 +134,7 @@ impl Machine {
 
     /// The bytes of a buffer, where it stands.
     pub(crate) fn buffer(&self, name: &Name) -> Option<&[u8]>
-        ensures { MatchOption result (buffer_of self.now name.now ≡ None) (λ bytes. buffer_of self.now name.now ≡ Some bytes.now) }
+        ensures { MatchOption result (buffer_of self.now name.now ≡ None) (λ bytes. (buffer_of self.now name.now ≡ Some bytes.now) × IsSmall bytes.now) }
     {
         let bytes = self.transfers.buffer(name)?;
         Some(bytes)
