@@ -1,4 +1,4 @@
-pub mod Appending
+pub mod Among
 pub mod Clashes
 pub mod Cuts
 pub mod Inside

@@ -8,8 +8,7 @@ ghost use Rattle.dt_elems.specs.Place.{IsPlace};
 ghost use Rattle.dt_elems.specs.Taking.{are_free, with_bytes, with_elements};
 
 use crate::apart::copies_are_apart;
-use crate::bytes::start_of;
-use crate::place::copy_at;
+use crate::place::{copy_at, start_of};
 use crate::span::{has_elements, packed_size};
 use dt_kinds::{NoMemory, Rep};
 use dt_map::{Entry, FlatMap};

@@ -2,8 +2,10 @@ pub mod Definitions
 pub mod Fills
 pub mod LeastTrees
 pub mod Lines
+pub mod Moving
 pub mod NamedTypes
 pub mod Once
+pub mod Opening
 pub mod Operations
 pub mod Outcomes
 pub mod Rebuilding

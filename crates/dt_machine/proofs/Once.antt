@@ -1,17 +1,18 @@
 -- A step is a function, and so are the answers to an input.
-use Rattle.std.proofs.Common.{◌≡◌, ℕ, ◌<◌, ℤ, pos, false, cond, List, [], ◌∷◌, length, Option, Some, None, inl, inr, refl, sym, ap, subst, ◌∙◌, arith}
+use Rattle.std.proofs.Common.{◌≡◌, ℕ, ◌+◌, ◌<◌, ℤ, pos, nat_abs, false, cond, List, [], ◌∷◌, length, Option, Some, None, inl, inr, refl, sym, ap, subst, ◌∙◌, arith}
 use Rattle.std.proofs.lemmas.Bool.{cases_lt}
 use Rattle.std.specs.List.{AllByRecursion}
 use Rattle.std.specs.Option.{IsSomeAnd}
 use Rattle.dt_map.specs.Bounds.{bounds_of}
+use Rattle.dt_map.specs.Counts.{received_elements, received_copies}
 use Rattle.dt_map.specs.Packed.{packed}
 use Rattle.dt_reply.specs.declared.refusal.Refusal.{Refusal}
 use Rattle.dt_reply.specs.declared.reply.Reply.{Reply}
-use Rattle.dt_reply.specs.declared.reply.Reply.TheVariants.{Done, Packed, Shown, Told, Listed, Described, Contained, Refused}
+use Rattle.dt_reply.specs.declared.reply.Reply.TheVariants.{Done, Packed, Shown, Told, Listed, Described, Contained, Counted, Opened, Closed, Refused}
 use Rattle.dt_reply.specs.Refusal.{number_of}
 use Rattle.dt_reply.proofs.Numbers.{one_refusal}
 use Rattle.dt_script.specs.declared.command.Command.{Command}
-use Rattle.dt_script.specs.declared.command.Command.TheVariants.{Define, Child, Commit, Free, Info, Map, Envelope, Contents, Buffer, Show, Bytes, Weights, Normalise, Rebuild}
+use Rattle.dt_script.specs.declared.command.Command.TheVariants.{Define, Child, Commit, Free, Info, Map, Envelope, Contents, Buffer, Show, Bytes, Elements, Pack, Take, Seek, Close, Weights, Normalise, Rebuild}
 use Rattle.dt_script.specs.Line.{Meaning, Blank, Fault, Does, IsLine}
 use Rattle.dt_script.specs.Lines.{script_lines}
 use Rattle.dt_script.specs.Name.{begins_with_mpi}
@@ -29,8 +30,11 @@ use Rattle.dt_machine.specs.Choice.{cost_told, tells}
 use Rattle.dt_machine.specs.Laws.{sought, Chooses, StepIsFunction, AnswersAreOne}
 use Rattle.dt_machine.specs.Made.{form_in, is_committed_by}
 use Rattle.dt_machine.specs.Refusal.{elements_of, IsRefusedBy}
-use Rattle.dt_machine.specs.State.{State, first_state, type_of, buffer_of, with_type, with_committed, with_cost, with_count}
-use Rattle.dt_machine.specs.Step.{Performs, Obeys, Meets}
+use Rattle.dt_machine.specs.State.{State, first_state, type_of, buffer_of, session_of, with_session, with_moved, without_session, with_taken, with_type, with_committed, with_cost, with_count}
+use Rattle.dt_pack.specs.Session as pack
+use Rattle.dt_sessions.specs.declared.session.Opened as opened
+use Rattle.dt_sessions.specs.Open.{total_in, passed_in, next_in, packing}
+use Rattle.dt_machine.specs.Step.{begun, taken_by, Performs, Obeys, Meets}
 use Rattle.dt_machine.proofs.Rows.{some_and}
 use Rattle.dt_machine.proofs.Telling.{no_choice}
 
@@ -45,6 +49,16 @@ by_one found to of reply other t u (x, a, b, c) (y, d, e, f) =
     let both : Some x ≡ Some y = sym a ∙ d in
     let same : x ≡ y = cc in
     (b ∙ ap to same ∙ sym e, c ∙ ap of same ∙ sym f)
+
+by_two : {A B : Type 0} (found : Option A) (held : A → Option B) (to : A → B → Reply) (of : A → B → State) (reply other : Reply) (t u : State)
+    → ((x : A) × (y : B) × (found ≡ Some x) × (held x ≡ Some y) × (reply ≡ to x y) × (t ≡ of x y))
+    → ((x : A) × (y : B) × (found ≡ Some x) × (held x ≡ Some y) × (other ≡ to x y) × (u ≡ of x y)) → IsOne reply other t u
+by_two found held to of reply other t u (x, y, a, b, c, d) (x2, y2, e, f, g, h) =
+    let both : Some x ≡ Some x2 = sym a ∙ e in
+    let same : x ≡ x2 = cc in
+    let also : Some y ≡ Some y2 = sym b ∙ (ap held same ∙ f) in
+    let one : y ≡ y2 = cc in
+    (c ∙ (ap (λ x. to x y) same ∙ (ap (to x2) one ∙ sym g)), d ∙ (ap (λ x. of x y) same ∙ (ap (of x2) one ∙ sym h)))
 
 abbrev HasEntries : Kept → Type 0
 HasEntries kept = 0 < length (entries_of kept.ty)
@@ -95,6 +109,21 @@ performs_one (Bytes rep count ty buffer origin) s t u reply other none (kept, he
     let one : held ≡ held2 = cc in
     let text = ap (λ (x : Kept). Packed (packed rep (elements_of x count origin) held)) same ∙ ap (λ (x : List ℕ). Packed (packed rep (elements_of kept2 count origin) x)) one in
     (c ∙ (text ∙ sym g), d ∙ sym h)
+performs_one (Elements rep bytes ty) s t u reply other none p q =
+    by_one (type_of s ty)
+    (λ kept. Counted (received_elements rep (typemap_of kept.ty) (nat_abs bytes)) (received_copies rep (typemap_of kept.ty) (nat_abs bytes))) (λ _. with_count s) reply
+    other t u p q
+performs_one (Pack name rep count ty buffer origin) s t u reply other none p q =
+    by_two (type_of s ty) (λ _. buffer_of s buffer) (λ kept bytes. Opened (pack.total_of (begun kept rep count origin (length bytes))))
+    (λ kept bytes. with_count (with_session s name (packing buffer (begun kept rep count origin (length bytes))))) reply other t u p q
+performs_one (Take session len) s t u reply other none p q =
+    by_two (session_of s session) (λ (o : opened.Opened). buffer_of s o.buffer) (λ o bytes. Packed (next_in o.session bytes (taken_by o len)))
+    (λ o bytes. with_count (with_taken (with_moved s session o (passed_in o.session + taken_by o len)) (taken_by o len))) reply other t u p q
+performs_one (Seek session byte) s t u reply other none p q =
+    by_one (session_of s session) (λ _. Done) (λ o. with_count (with_moved s session o (nat_abs byte))) reply other t u p q
+performs_one (Close session) s t u reply other none p q =
+    by_one (session_of s session) (λ (o : opened.Opened). Closed (passed_in o.session) (total_in o.session)) (λ _. with_count (without_session s session)) reply other t
+    u p q
 performs_one (Weights leaf vector index place group part) s t u reply other none p q = (p.0 ∙ sym q.0, p.1 ∙ sym q.1)
 performs_one (Normalise ty) s t u reply other none (kept, base, tree, a, b, c, d) (kept2, base2, tree2, e, f, g, h) =
     let few = no_choice s.weights (entries_of kept.ty) base tree (λ some. none (some_and (type_of s ty) HasEntries kept a some)) b in

@@ -1,7 +1,7 @@
 -- Refusals of commands that ask: the first condition that holds.
-use Rattle.std.proofs.Common.{◌≡◌, ℕ, ◌≤◌, ◌<◌, ℤ, true, false, ◌||◌, List, [], ◌∷◌, length, Some, None, IsTrue, ap, ◌∙◌, arith}
+use Rattle.std.proofs.Common.{◌≡◌, ℕ, ◌≤◌, ◌<◌, ℤ, pos, true, false, ◌||◌, List, [], ◌∷◌, length, Some, None, IsTrue, ap, ◌∙◌, arith}
 use Rattle.std.proofs.lemmas.Bool.{or_from, or_left, or_right}
-use Rattle.std.specs.Prelude.{IsFalse}
+use Rattle.std.specs.Prelude.{IsFalse, int_lt}
 use Rattle.std.specs.Option.{is_none, option_map_or, IsSomeAnd}
 use Rattle.dt_kinds.specs.declared.kind.Rep.{Rep}
 use Rattle.dt_map.specs.Elements.{are_inside}
@@ -9,7 +9,7 @@ use Rattle.dt_map.specs.Packed.{total}
 use Rattle.dt_reply.specs.declared.refusal.Refusal.{Refusal}
 use Rattle.dt_reply.specs.declared.refusal.Refusal.TheVariants as refusal
 use Rattle.dt_script.specs.declared.command.Command.{Command}
-use Rattle.dt_script.specs.declared.command.Command.TheVariants.{Info, Map, Envelope, Contents, Show, Bytes}
+use Rattle.dt_script.specs.declared.command.Command.TheVariants.{Info, Map, Envelope, Contents, Show, Bytes, Elements}
 use Rattle.dt_type.specs.Basic.{is_basic}
 use Rattle.dt_type.specs.Datatype.{entries_of}
 use Rattle.dt_names.specs.declared.stop.Stop.{Stop}
@@ -70,6 +70,19 @@ contents_named s ty kept is basic =
 pub contents_allowed : (s : State) (ty : List ℕ) (kept : Kept) → type_of s ty ≡ Some kept → is_basic kept.ty ≡ false → IsAllowed s (Contents ty)
 contents_allowed s ty kept is derived =
     allowed s (Contents ty) (is_known s ty kept is, (is_supported s ty kept is, (contrary (is_basic_word s ty) (basic_by s ty kept is ∙ derived), tt)))
+
+-- `elements REP BYTES TYPE`
+module _ (s : State) (rep : Rep) (bytes : ℤ) (ty : List ℕ) where
+  pub counts_missing : (stop : Stop) → IsMissing s.types ty stop → IsStop s (Elements rep bytes ty) stop
+  counts_missing = missing s ty (Elements rep bytes ty) (refusal.BadArgument when IsTrue (int_lt bytes (pos 0)) ∷ []) (λ _ first. first)
+
+  module _ (kept : Kept) (is : type_of s ty ≡ Some kept) where
+    pub counts_negative : int_lt bytes (pos 0) ≡ true → IsRefusedBy s (Elements rep bytes ty) refusal.BadArgument
+    counts_negative negative = refused s (Elements rep bytes ty) refusal.BadArgument (is_known s ty kept is, (is_supported s ty kept is, negative))
+
+    pub counts_allowed : int_lt bytes (pos 0) ≡ false → IsAllowed s (Elements rep bytes ty)
+    counts_allowed some =
+        allowed s (Elements rep bytes ty) (is_known s ty kept is, (is_supported s ty kept is, (contrary (int_lt bytes (pos 0)) some, tt)))
 
 -- `show BUFFER`
 pub show_unknown : (s : State) (buffer : List ℕ) → buffer_of s buffer ≡ None → IsRefusedBy s (Show buffer) refusal.UnknownName

@@ -1,4 +1,5 @@
 -- What a command comes to before anything changes. No public clause cites this module.
+use Rattle.std.specs.Option.{IsSomeAnd}
 use Rattle.std.specs.Prelude.{◌≡◌, true, false, IsTrue, List, ℕ, ◌<◌, Option, Some, None, IsSome, Result, MatchResult}
 use Rattle.dt_reply.specs.declared.refusal.Refusal.TheVariants as refusal
 use Rattle.dt_reply.specs.Reply.{is_accepted}
@@ -7,20 +8,27 @@ use Rattle.dt_type.specs.Basic.{is_basic}
 use Rattle.dt_type.specs.declared.fault.CtorFault.{CtorFault}
 use Rattle.dt_type.specs.declared.fault.CtorFault.TheVariants as fault
 use Rattle.dt_machine.specs.declared.outcome.Change.{Change}
-use Rattle.dt_machine.specs.declared.outcome.Change.TheVariants.{Nothing, AddType, Commit, Free, AddBuffer, SetWeights, AddCost}
+use Rattle.dt_machine.specs.declared.outcome.Change.TheVariants.{Nothing, AddType, Commit, Free, AddBuffer, SetWeights, AddCost, OpenSession, SeekSession, TakeBytes, CloseSession}
 use Rattle.dt_machine.specs.declared.outcome.Outcome.{Outcome}
 use Rattle.dt_names.specs.declared.stop.Stop.{Stop}
 use Rattle.dt_names.specs.declared.stop.Stop.TheVariants.{Refused, NoMemory}
 use Rattle.dt_names.specs.declared.kept.Kept.{Kept}
 use Rattle.dt_machine.specs.Refusal.{IsRefusedBy, IsAllowed}
-use Rattle.dt_machine.specs.State.{State, with_type, with_committed, without_type, with_buffer, with_weights, with_cost, with_count}
+use Rattle.dt_machine.specs.State.{State, with_type, with_committed, without_type, with_buffer, with_session, with_moved, without_session, with_taken, with_weights, with_cost, with_count}
 use Rattle.dt_names.specs.Names.{under}
+use Rattle.dt_sessions.specs.declared.session.Opened.{Opened}
+use Rattle.dt_sessions.specs.Open.{CanSeek, IsOver, IsSmall}
 use Rattle.dt_machine.specs.Step.{Performs}
 
 -- where a name stands for a type, the state with this type committed
 abbrev pub with_commit : State → List ℕ → Option Kept → State
 with_commit s name None = s
 with_commit s name (Some kept) = with_committed s name kept
+
+-- where a name stands for a session, the state with this session at another packed byte
+abbrev pub with_seek : State → List ℕ → ℕ → Option Opened → State
+with_seek s name byte None = s
+with_seek s name byte (Some opened) = with_moved s name opened byte
 
 -- the state behind a change
 abbrev pub changed : Change → State → State
@@ -31,17 +39,26 @@ changed (Free name) s = without_type s name
 changed (AddBuffer name bytes) s = with_buffer s name bytes
 changed (SetWeights w) s = with_weights s w
 changed (AddCost cost) s = with_cost s cost
+changed (OpenSession name opened) s = with_session s name opened
+changed (SeekSession name byte) s = with_seek s name byte (under name s.sessions)
+changed (TakeBytes name byte count) s = with_taken (with_seek s name byte (under name s.sessions)) count
+changed (CloseSession name) s = without_session s name
 
--- what a change asks of the state: a new name, of which more may be made, and a basic type committed; a name that stands, of no basic type
+-- what a change asks of the state: a new name, of which more may be made, and a basic type committed; a name that stands, of no basic type;
+-- a new buffer that is small; a buffer that stands, for a session; and a packed byte to which a session can go
 abbrev pub CanChange : Change → State → Type 0
 CanChange Nothing s = Unit {0}
 CanChange (AddType name kept) s =
     (under name s.types ≡ None) × (s.made < 18446744073709551615) × (is_basic kept.ty ≡ true → kept.committed ≡ true)
 CanChange (Commit name) s = IsSome (under name s.types)
 CanChange (Free name) s = (kept : Kept) → under name s.types ≡ Some kept → is_basic kept.ty ≡ false
-CanChange (AddBuffer name bytes) s = Unit {0}
+CanChange (AddBuffer name bytes) s = (under name s.buffers ≡ None) × IsSmall bytes
 CanChange (SetWeights w) s = Unit {0}
 CanChange (AddCost cost) s = Unit {0}
+CanChange (OpenSession name opened) s = IsOver s.buffers opened
+CanChange (SeekSession name byte) s = IsSomeAnd (under name s.sessions) (λ opened. CanSeek opened.session byte)
+CanChange (TakeBytes name byte count) s = IsSomeAnd (under name s.sessions) (λ opened. CanSeek opened.session byte)
+CanChange (CloseSession name) s = Unit {0}
 
 -- a command that is allowed: its reply, and the change that it makes
 pub record IsOutcome (s : State) (command : Command) (o : Outcome) : Type 0 where

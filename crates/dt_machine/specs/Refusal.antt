@@ -1,15 +1,16 @@
 -- When a command is refused, and by which number.
-use Rattle.std.specs.Prelude.{◌≡◌, ℕ, ◌+◌, ◌≤◌, ◌<◌, ℤ, pos, nat_abs, int_lt, Bool, ◌||◌, IsTrue, IsFalse, is_none, List, [], ◌∷◌, length, None, false, ◌⊎◌}
+use Rattle.std.specs.Prelude.{◌≡◌, ℕ, ◌+◌, ◌≤◌, ◌<◌, ℤ, pos, nat_abs, int_lt, ◌<ℤ◌, Bool, ◌||◌, IsTrue, IsFalse, is_none, List, [], ◌∷◌, length, None, false, ◌⊎◌}
 use Rattle.std.specs.Option.{IsSomeAnd}
 use Rattle.dt_kinds.specs.Name.{is_left_out}
+use Rattle.dt_kinds.specs.declared.kind.Rep.{Rep}
 use Rattle.dt_map.specs.declared.entry.Entry.{Entry}
 use Rattle.dt_map.specs.Elements.{elements, are_inside}
 use Rattle.dt_map.specs.Packed.{total}
 use Rattle.dt_reply.specs.declared.refusal.Refusal.{Refusal}
-use Rattle.dt_reply.specs.declared.refusal.Refusal.TheVariants.{UnknownName, NameTaken, UnsupportedKind, BasicType, NamedType, NoSuchChild, BadArgument, Overflow, TooDeep, TooHeavy, TooManyNames, TooManyEntries, Outside, TooLarge}
+use Rattle.dt_reply.specs.declared.refusal.Refusal.TheVariants.{UnknownName, NameTaken, UnsupportedKind, NotCommitted, BasicType, NamedType, NoSuchChild, BadArgument, Overflow, TooDeep, TooHeavy, TooManyNames, TooManyEntries, Outside, TooLarge}
 use Rattle.dt_reply.specs.Refusal.{number_of}
 use Rattle.dt_script.specs.declared.command.Command.{Command}
-use Rattle.dt_script.specs.declared.command.Command.TheVariants.{Define, Child, Commit, Free, Info, Map, Envelope, Contents, Buffer, Show, Bytes, Weights, Normalise, Rebuild}
+use Rattle.dt_script.specs.declared.command.Command.TheVariants.{Define, Child, Commit, Free, Info, Map, Envelope, Contents, Buffer, Show, Bytes, Elements, Pack, Take, Seek, Close, Weights, Normalise, Rebuild}
 use Rattle.dt_script.specs.declared.command.Fill.{Fill}
 use Rattle.dt_script.specs.declared.command.Fill.TheVariants.{Zero, Count, Hex}
 use Rattle.dt_script.specs.Olds.{any_old}
@@ -19,11 +20,13 @@ use Rattle.dt_form.specs.Contents.{old_at}
 use Rattle.dt_type.specs.Datatype.{typemap_of, entries_of, form_of}
 use Rattle.dt_form.specs.Form.{olds_of}
 use Rattle.dt_names.specs.declared.kept.Kept.{Kept}
-use Rattle.dt_machine.specs.declared.limits.TheConstants.{MOST_TYPES, MOST_MADE, MOST_BUFFERS, LARGEST_BUFFER, MOST_BYTES, MOST_ENTRIES, MOST_SOUGHT, MOST_PACKED}
+use Rattle.dt_sessions.specs.declared.session.Opened.{Opened}
+use Rattle.dt_sessions.specs.Open.{total_in}
+use Rattle.dt_machine.specs.declared.limits.TheConstants.{MOST_TYPES, MOST_MADE, MOST_BUFFERS, LARGEST_BUFFER, MOST_BYTES, MOST_ENTRIES, MOST_SOUGHT, MOST_PACKED, MOST_SESSIONS, MOST_OPEN}
 use Rattle.dt_machine.specs.Choice.{AreWeights, AreTooWide}
 use Rattle.dt_machine.specs.Made.{IsFaultIn}
 use Rattle.dt_machine.specs.Row.{Row, ◌when◌, condition}
-use Rattle.dt_machine.specs.State.{State, type_of, buffer_of, is_unknown, is_basic_word, is_type_taken, is_buffer_taken, bytes_held}
+use Rattle.dt_machine.specs.State.{State, type_of, buffer_of, is_unknown, is_basic_word, is_type_taken, is_buffer_taken, is_session_taken, session_of, packed_open, bytes_held}
 use Rattle.dt_names.specs.Names.{bytes_of}
 
 -- a negative length
@@ -44,6 +47,14 @@ elements_of kept count origin = elements (typemap_of kept.ty) (nat_abs count) or
 abbrev pub IsOutside : State → List ℕ → List ℕ → ℤ → ℤ → Type 0
 IsOutside s ty buffer count origin =
     IsSomeAnd (type_of s ty) (λ kept. IsSomeAnd (buffer_of s buffer) (λ bytes. IsFalse (are_inside (length bytes) (elements_of kept count origin))))
+
+-- the packed bytes of an operation and of all open sessions together are too many
+abbrev pub IsTooMuch : State → Rep → ℤ → ℤ → Kept → Type 0
+IsTooMuch s rep count origin kept = MOST_OPEN < packed_open s + total rep (elements_of kept count origin)
+
+-- a packed byte that a session hasn't
+abbrev pub IsBeyond : ℤ → Opened → Type 0
+IsBeyond byte opened = (byte <ℤ pos 0) ⊎ (pos (total_in opened.session) <ℤ byte)
 
 -- no more types may stand, or be made
 abbrev pub NoMoreTypes : State → Type 0
@@ -101,6 +112,20 @@ conditions s (Bytes rep count ty buffer origin) =
     ∷ Outside when IsOutside s ty buffer count origin
     ∷ TooLarge when IsSomeAnd (type_of s ty) (λ kept. MOST_PACKED < total rep (elements_of kept count origin))
     ∷ []
+conditions s (Elements rep bytes ty) = type_row s ty (BadArgument when IsTrue (int_lt bytes (pos 0)) ∷ [])
+conditions s (Pack name rep count ty buffer origin) =
+    UnknownName when IsTrue (is_unknown s ty || is_none (buffer_of s buffer))
+    ∷ NameTaken when IsTrue (is_session_taken s name)
+    ∷ UnsupportedKind when IsTrue (is_left_out ty)
+    ∷ NotCommitted when IsSomeAnd (type_of s ty) (λ kept. kept.committed ≡ false)
+    ∷ BadArgument when IsTrue (int_lt count (pos 0))
+    ∷ TooManyNames when (MOST_SESSIONS ≤ length s.sessions)
+    ∷ Outside when IsOutside s ty buffer count origin
+    ∷ TooLarge when IsSomeAnd (type_of s ty) (IsTooMuch s rep count origin)
+    ∷ []
+conditions s (Take session len) = UnknownName when IsTrue (is_none (session_of s session)) ∷ BadArgument when IsTrue (int_lt len (pos 0)) ∷ []
+conditions s (Seek session byte) = UnknownName when IsTrue (is_none (session_of s session)) ∷ BadArgument when IsSomeAnd (session_of s session) (IsBeyond byte) ∷ []
+conditions s (Close session) = UnknownName when IsTrue (is_none (session_of s session)) ∷ []
 conditions s (Weights leaf vector index place group part) = BadArgument when (¬ AreWeights leaf vector index place group part) ∷ []
 conditions s (Normalise ty) =
     type_row s ty (TooManyEntries when IsSomeAnd (type_of s ty) (λ kept. MOST_SOUGHT < length (entries_of kept.ty)) ∷ [])

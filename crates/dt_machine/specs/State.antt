@@ -8,15 +8,18 @@ use Rattle.std.specs.Ordering.{nat_cmp}
 use Rattle.dt_type.specs.declared.datatype.Seen.{Seen}
 use Rattle.dt_names.specs.declared.kept.Kept.{Kept}
 use Rattle.dt_names.specs.Names.{under, type_in, is_basic_in, is_unknown_in, is_taken_in, bytes_in}
+use Rattle.dt_sessions.specs.declared.session.Opened.{Opened}
+use Rattle.dt_sessions.specs.Open.{packed_in, opened_at}
 use Rattle.dt_tree.specs.Weights.{Weights, default_weights}
 use Rattle.dt_machine.specs.declared.state.Totals.{Totals}
 
--- the types with their flags and the buffers that stand, by name and in the order of the names; how many types were made, freed
+-- the types with their flags and the buffers that stand and the sessions that are open, by name and in the order of the names; how many types were made, freed
 -- ones too; what the parts of trees cost; and what was counted
 pub record State : Type 0 where
   pub types : List (List ℕ × Kept)
   pub made : ℕ
   pub buffers : List (List ℕ × List ℕ)
+  pub sessions : List (List ℕ × Opened)
   pub weights : Weights
   pub totals : Totals
 
@@ -25,7 +28,7 @@ abbrev pub no_totals : Totals
 no_totals = record { commands = 0; taken = 0; given = 0; elements = 0; cost = 0 }
 
 abbrev pub first_state : State
-first_state = record { types = []; made = 0; buffers = []; weights = default_weights; totals = no_totals }
+first_state = record { types = []; made = 0; buffers = []; sessions = []; weights = default_weights; totals = no_totals }
 
 -- what a type word stands for: a basic type where it begins as the names of MPI do, else the type of that name
 abbrev pub type_of : State → List ℕ → Option Kept
@@ -52,6 +55,16 @@ is_type_taken s name = is_taken_in s.types name
 abbrev pub is_buffer_taken : State → List ℕ → Bool
 is_buffer_taken s name = is_some (buffer_of s name)
 
+abbrev pub session_of : State → List ℕ → Option Opened
+session_of s name = under name s.sessions
+
+abbrev pub is_session_taken : State → List ℕ → Bool
+is_session_taken s name = is_some (session_of s name)
+
+-- the packed bytes of all open sessions together
+abbrev pub packed_open : State → ℕ
+packed_open s = packed_in s.sessions
+
 -- the bytes of all buffers together
 abbrev pub bytes_held : State → ℕ
 bytes_held s = bytes_in s.buffers
@@ -71,6 +84,20 @@ without_type s name = record s { types = remove_entry (is_at (slice_cmp nat_cmp 
 
 abbrev pub with_buffer : State → List ℕ → List ℕ → State
 with_buffer s name bytes = record s { buffers = insert_entry (slice_cmp nat_cmp) s.buffers name bytes }
+
+-- the state with one more session, with a session at another packed byte, and without one
+abbrev pub with_session : State → List ℕ → Opened → State
+with_session s name opened = record s { sessions = insert_entry (slice_cmp nat_cmp) s.sessions name opened }
+
+abbrev pub with_moved : State → List ℕ → Opened → ℕ → State
+with_moved s name opened byte = record s { sessions = set_value (is_at (slice_cmp nat_cmp name)) s.sessions (opened_at opened byte) }
+
+abbrev pub without_session : State → List ℕ → State
+without_session s name = record s { sessions = remove_entry (is_at (slice_cmp nat_cmp name)) s.sessions }
+
+-- so many packed bytes more were taken
+abbrev pub with_taken : State → ℕ → State
+with_taken s n = record s { totals = record s.totals { taken = min (s.totals.taken + n) (2 ^ 64 - 1) } }
 
 abbrev pub with_weights : State → Weights → State
 with_weights s w = record s { weights = w }

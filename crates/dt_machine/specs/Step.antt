@@ -1,13 +1,15 @@
 -- What a line does to the state, and what is replied.
-use Rattle.std.specs.Prelude.{◌≡◌, ℕ, ℤ, false, if◌then◌else◌, List, Option, Some, ◌⊎◌}
+use Rattle.std.specs.Prelude.{◌≡◌, ℕ, ◌+◌, min, length, ℤ, nat_abs, false, if◌then◌else◌, List, Option, Some, ◌⊎◌}
+use Rattle.dt_kinds.specs.declared.kind.Rep.{Rep}
 use Rattle.dt_map.specs.Bounds.{bounds_of}
+use Rattle.dt_map.specs.Counts.{received_elements, received_copies}
 use Rattle.dt_map.specs.Packed.{packed}
 use Rattle.dt_reply.specs.declared.refusal.Refusal.{Refusal}
 use Rattle.dt_reply.specs.declared.refusal.Refusal.TheVariants.{Syntax}
 use Rattle.dt_reply.specs.declared.reply.Reply.{Reply}
-use Rattle.dt_reply.specs.declared.reply.Reply.TheVariants.{Silent, Done, Packed, Shown, Told, Listed, Described, Contained, Refused}
+use Rattle.dt_reply.specs.declared.reply.Reply.TheVariants.{Silent, Done, Packed, Shown, Told, Listed, Described, Contained, Counted, Opened, Closed, Refused}
 use Rattle.dt_script.specs.declared.command.Command.{Command}
-use Rattle.dt_script.specs.declared.command.Command.TheVariants.{Define, Child, Commit, Free, Info, Map, Envelope, Contents, Buffer, Show, Bytes, Weights, Normalise, Rebuild}
+use Rattle.dt_script.specs.declared.command.Command.TheVariants.{Define, Child, Commit, Free, Info, Map, Envelope, Contents, Buffer, Show, Bytes, Elements, Pack, Take, Seek, Close, Weights, Normalise, Rebuild}
 use Rattle.dt_script.specs.Name.{begins_with_mpi}
 use Rattle.dt_script.specs.Line.{Meaning, Blank, Fault, Does, IsLine}
 use Rattle.dt_type.specs.declared.datatype.Seen.{Seen}
@@ -17,14 +19,25 @@ use Rattle.dt_form.specs.Contents.{old_at, envelope_of, contents_of}
 use Rattle.dt_type.specs.Datatype.{typemap_of, entries_of, marks_of, form_of}
 use Rattle.dt_form.specs.Form.{olds_of}
 use Rattle.dt_type.specs.Form.{result_of}
+use Rattle.dt_pack.specs.Session as pack
 use Rattle.dt_rebuild.specs.Built.{built}
 use Rattle.dt_tree.specs.Tree.{Tree}
 use Rattle.dt_names.specs.declared.kept.Kept.{Kept}
+use Rattle.dt_sessions.specs.declared.session.Opened as opened
+use Rattle.dt_sessions.specs.Open.{total_in, passed_in, rest_in, next_in, packing}
 use Rattle.dt_machine.specs.Choice.{weights_by, MayBeTold, cost_told, tells}
 use Rattle.dt_machine.specs.Made.{form_in, is_committed_by}
 use Rattle.dt_machine.specs.Refusal.{elements_of, IsRefusedBy, IsAllowed}
-use Rattle.dt_machine.specs.State.{State, type_of, buffer_of, with_type, with_committed, without_type, with_buffer, with_weights, with_cost, with_count}
+use Rattle.dt_machine.specs.State.{State, type_of, buffer_of, session_of, with_session, with_moved, without_session, with_taken, with_type, with_committed, without_type, with_buffer, with_weights, with_cost, with_count}
 use Rattle.dt_names.specs.Names.{bytes_of}
+
+-- a pack session over a type and a buffer of so many bytes, as it is opened
+abbrev pub begun : Kept → Rep → ℤ → ℤ → ℕ → pack.Session
+begun kept rep count origin len = pack.opened (typemap_of kept.ty) (nat_abs count) rep origin len
+
+-- how many packed bytes are taken: as many as asked for, or as are still to come
+abbrev pub taken_by : opened.Opened → ℤ → ℕ
+taken_by o len = min (nat_abs len) (rest_in o.session)
 
 -- what a command replies and changes that is not refused
 abbrev pub Performs : Command → State → Reply → State → Type 0
@@ -59,6 +72,28 @@ Performs (Show buffer) s reply t = (bytes : List ℕ) × (buffer_of s buffer ≡
 Performs (Bytes rep count ty buffer origin) s reply t =
     (kept : Kept) × (bytes : List ℕ) × (type_of s ty ≡ Some kept) × (buffer_of s buffer ≡ Some bytes)
     × (reply ≡ Packed (packed rep (elements_of kept count origin) bytes)) × (t ≡ with_count s)
+-- the elements and the copies among so many received bytes are told
+Performs (Elements rep bytes ty) s reply t =
+    (kept : Kept) × (type_of s ty ≡ Some kept)
+    × (reply ≡ Counted (received_elements rep (typemap_of kept.ty) (nat_abs bytes)) (received_copies rep (typemap_of kept.ty) (nat_abs bytes)))
+    × (t ≡ with_count s)
+-- the new name stands for a pack session over the type as it is now, and how many packed bytes there are is told
+Performs (Pack name rep count ty buffer origin) s reply t =
+    (kept : Kept) × (bytes : List ℕ) × (type_of s ty ≡ Some kept) × (buffer_of s buffer ≡ Some bytes)
+    × (reply ≡ Opened (pack.total_of (begun kept rep count origin (length bytes))))
+    × (t ≡ with_count (with_session s name (packing buffer (begun kept rep count origin (length bytes)))))
+-- the next packed bytes of the session are told, of its buffer as it is now, and it moves past them
+Performs (Take session len) s reply t =
+    (o : opened.Opened) × (bytes : List ℕ) × (session_of s session ≡ Some o) × (buffer_of s o.buffer ≡ Some bytes)
+    × (reply ≡ Packed (next_in o.session bytes (taken_by o len)))
+    × (t ≡ with_count (with_taken (with_moved s session o (passed_in o.session + taken_by o len)) (taken_by o len)))
+-- the session goes to the packed byte
+Performs (Seek session byte) s reply t =
+    (o : opened.Opened) × (session_of s session ≡ Some o) × (reply ≡ Done) × (t ≡ with_count (with_moved s session o (nat_abs byte)))
+-- the session ends, and where it stood is told
+Performs (Close session) s reply t =
+    (o : opened.Opened) × (session_of s session ≡ Some o) × (reply ≡ Closed (passed_in o.session) (total_in o.session))
+    × (t ≡ with_count (without_session s session))
 -- trees are weighed so from now on
 Performs (Weights leaf vector index place group part) s reply t =
     (reply ≡ Done) × (t ≡ with_count (with_weights s (weights_by leaf vector index place group part)))

@@ -8,9 +8,10 @@ ghost use Rattle.dt_script.specs.declared.command.Command.TheVariants.{Bytes as 
 use crate::limits::MOST_PACKED;
 use crate::machine::Machine;
 use crate::outcome::{Outcome, told};
-use dt_elems::{packed_bytes, packed_size, span_inside};
+use dt_elems::{packed_size, span_inside};
 use dt_kinds::Rep;
 use dt_names::Stop;
+use dt_pack::packed_bytes;
 use dt_reply::{Refusal, Reply};
 use dt_script::{Bytes, Name};
 use dt_type::Datatype;

@@ -21,5 +21,11 @@ pub const MOST_ENTRIES: u64 = 4096;
 /// So many entries a type may have of which a least tree is told.
 pub const MOST_SOUGHT: u64 = 1024;
 
+/// So many sessions may be open.
+pub const MOST_SESSIONS: usize = 256;
+
+/// So many packed bytes all open sessions together may have.
+pub const MOST_OPEN: u64 = 16_777_216;
+
 /// So many packed bytes a reply prints.
 pub const MOST_PACKED: u128 = 16_777_216;

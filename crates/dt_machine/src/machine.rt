@@ -1,8 +1,10 @@
-ghost use Rattle.std.specs.Prelude.{◌≡◌, ◌↔◌, ◌++◌, IsTrue, true, false, IfOk, OnOk, OnErr, MatchOption, MatchResult, None, Some, min, length};
-ghost use Rattle.std.specs.Option.{option_map_or};
+ghost use Rattle.std.specs.Prelude.{◌≡◌, ◌↔◌, ◌++◌, ℕ, List, IsTrue, true, false, IfOk, OnOk, OnErr, MatchOption, MatchResult, None, Some, min, length};
+ghost use Rattle.std.specs.Option.{option_map_or, IsSomeAnd};
 ghost use Rattle.dt_machine.specs.Outcome.{CanChange, ComesTo, changed};
 ghost use Rattle.dt_names.specs.Missing.{IsMissing};
-ghost use Rattle.dt_machine.specs.State.{first_state, type_of, buffer_of, is_unknown, is_basic_word, is_type_taken, is_buffer_taken, bytes_held, with_count};
+ghost use Rattle.dt_machine.specs.State.{first_state, type_of, buffer_of, is_unknown, is_basic_word, is_type_taken, is_buffer_taken, bytes_held, session_of, is_session_taken, packed_open, with_count};
+ghost use Rattle.dt_sessions.specs.declared.session.Opened.{Opened as OpenedValue};
+ghost use Rattle.dt_sessions.specs.Open.{next_in, CanTake, IsSmall};
 ghost use Rattle.dt_names.specs.Names.{under};
 ghost use Rattle.dt_machine.specs.Refusal.{NoMoreTypes};
 ghost use Rattle.dt_names.specs.Found.{IsFoundType};
@@ -14,19 +16,20 @@ use crate::limits::{MOST_MADE, MOST_TYPES};
 use crate::outcome::{Change, Outcome};
 use crate::state::Totals;
 use dt_kinds::NoMemory;
-use dt_names::{Buffers, Found, Kept, Stop, Types};
+use dt_names::{Found, Kept, Stop, Types};
 use dt_reply::{Refusal, Reply};
-use dt_script::{Command, LineFault, Name, parse_line};
+use dt_script::{Bytes, Command, LineFault, Name, parse_line};
+use dt_sessions::{Session, Transfers};
 use dt_tree::Weights;
 use std::alloc::Global;
 use std::marker::Model;
 
-/// The types and buffers of a script and the weights of its trees, changed by its lines.
+/// The types, buffers and sessions of a script and the weights of its trees, changed by its lines.
 #[derive(Drop)]
 pub struct Machine {
     pub(crate) alloc: Global,
     types: Types,
-    buffers: Buffers,
+    transfers: Transfers,
     weights: Weights,
     totals: Totals,
 }
@@ -41,7 +44,7 @@ impl Model for Machine {
 
     ghost coded = { Prim.hlevel (codes, datatype.the_row.coded) };
 
-    ghost view = { λ m. record { types = m.types.entries; made = m.types.made; buffers = m.buffers; weights = m.weights; totals = m.totals } };
+    ghost view = { λ m. record { types = m.types.entries; made = m.types.made; buffers = m.transfers.buffers; sessions = m.transfers.sessions; weights = m.weights; totals = m.totals } };
 }
 
 impl Machine {
@@ -59,7 +62,7 @@ impl Machine {
         Machine {
             alloc,
             types: Types::new(alloc),
-            buffers: Buffers::new(alloc),
+            transfers: Transfers::new(alloc),
             weights: Weights::default(),
             totals,
         }
@@ -90,7 +93,7 @@ impl Machine {
     pub(crate) fn is_buffer_taken(&self, name: &Name) -> bool
         ensures { result ≡ is_buffer_taken self.now name.now }
     {
-        self.buffers.contains(name)
+        self.transfers.has_buffer(name)
     }
 
     /// Whether a type word stands for nothing.
@@ -131,9 +134,10 @@ impl Machine {
 
     /// The bytes of a buffer, where it stands.
     pub(crate) fn buffer(&self, name: &Name) -> Option<&[u8]>
-        ensures { MatchOption result (buffer_of self.now name.now ≡ None) (λ bytes. buffer_of self.now name.now ≡ Some bytes.now) }
+        ensures { MatchOption result (buffer_of self.now name.now ≡ None) (λ bytes. (buffer_of self.now name.now ≡ Some bytes.now) × IsSmall bytes.now) }
     {
-        self.buffers.get(name)
+        let bytes = self.transfers.buffer(name)?;
+        Some(bytes)
     }
 
     /// Whether no more types may stand, or be made.
@@ -147,14 +151,62 @@ impl Machine {
     pub(crate) fn count_of_buffers(&self) -> usize
         ensures { result ≡ length self.now.buffers }
     {
-        self.buffers.len()
+        self.transfers.count_of_buffers()
     }
 
     /// The bytes of all buffers together, as far as 64 bits hold them.
     pub(crate) fn bytes_held(&self) -> u64
         ensures { result ≡ min (bytes_held self.now) 18446744073709551615 }
     {
-        self.buffers.bytes_held()
+        self.transfers.bytes_held()
+    }
+
+    /// How many bytes a buffer has, where it stands.
+    pub(crate) fn buffer_len(&self, name: &Name) -> Option<usize>
+        ensures { MatchOption result (buffer_of self.now name.now ≡ None) (λ len. (bytes : List ℕ) × (buffer_of self.now name.now ≡ Some bytes) × (len ≡ length bytes) × IsSmall bytes) }
+    {
+        let bytes = self.transfers.buffer(name)?;
+        Some(bytes.len())
+    }
+
+    /// How many sessions are open.
+    pub(crate) fn count_of_sessions(&self) -> usize
+        ensures { result ≡ length self.now.sessions }
+    {
+        self.transfers.count_of_sessions()
+    }
+
+    /// Whether no new session may have this name.
+    pub(crate) fn is_session_taken(&self, name: &Name) -> bool
+        ensures { result ≡ is_session_taken self.now name.now }
+    {
+        self.transfers.is_open(name)
+    }
+
+    /// The session of a name.
+    pub(crate) fn session(&self, name: &Name) -> Option<&Session>
+        ensures { MatchOption result (session_of self.now name.now ≡ None) (λ session. IsSomeAnd (session_of self.now name.now) (λ opened. opened.session ≡ session.now)) }
+    {
+        self.transfers.session(name)
+    }
+
+    /// The packed bytes of all open sessions together, as far as 64 bits hold them.
+    pub(crate) fn packed_open(&self) -> u64
+        ensures { result ≡ min (packed_open self.now) 18446744073709551615 }
+    {
+        self.transfers.packed_bytes()
+    }
+
+    /// The next packed bytes of a session, of its buffer as it is now. Nothing is changed.
+    pub(crate) fn next_bytes(&mut self, name: &Name, count: usize) -> Result<Bytes, NoMemory>
+        requires { IsSomeAnd (session_of self.old name.now) (λ opened. CanTake opened.session count) }
+        ensures same { self.new ≡ self.old }
+        ensures bytes { (opened : OpenedValue) → session_of self.old name.now ≡ Some opened → IfOk result (λ next. (bytes : List ℕ) × (buffer_of self.old opened.buffer ≡ Some bytes) × (next ≡ next_in opened.session bytes count)) }
+    {
+        let mut bytes = Vec::new(self.alloc);
+        bytes.resize(count, 0)?;
+        self.transfers.peek(name, &mut bytes);
+        Ok(Bytes::from_vec(bytes))
     }
 
     /// Makes a change, and counts the command.
@@ -168,9 +220,16 @@ impl Machine {
             Change::AddType { name, kept } => self.types.add(name, kept)?,
             Change::Commit { name } => self.types.commit(&name),
             Change::Free { name } => self.types.free(&name),
-            Change::AddBuffer { name, buffer } => self.buffers.add(name, buffer)?,
+            Change::AddBuffer { name, buffer } => self.transfers.add_buffer(name, buffer)?,
             Change::SetWeights { weights } => self.weights = weights,
             Change::AddCost { cost } => self.totals.cost = self.totals.cost.saturating_add(cost),
+            Change::OpenSession { name, opened } => self.transfers.open(name, opened)?,
+            Change::SeekSession { name, byte } => self.transfers.seek(&name, byte),
+            Change::TakeBytes { name, byte, count } => {
+                self.transfers.seek(&name, byte);
+                self.totals.taken = self.totals.taken.saturating_add(count);
+            }
+            Change::CloseSession { name } => self.transfers.close(&name),
         }
         self.totals.commands = self.totals.commands.saturating_add(1);
         Ok(())
@@ -201,9 +260,10 @@ impl Machine {
         Ok(false)
     }
 
-    /// What a command comes to.
-    fn outcome(&self, command: &Command) -> Result<Outcome, Stop>
-        ensures { ComesTo self.now command.now result }
+    /// What a command comes to. It changes nothing.
+    fn outcome(&mut self, command: &Command) -> Result<Outcome, Stop>
+        ensures same { self.new ≡ self.old }
+        ensures outcome { ComesTo self.old command.now result }
     {
         match command {
             Command::Define { name, ctor } => self.define(name, ctor),
@@ -223,6 +283,18 @@ impl Machine {
                 buffer,
                 origin,
             } => self.bytes(*rep, *count, ty, buffer, *origin),
+            Command::Elements { rep, bytes, ty } => self.counts(*rep, *bytes, ty),
+            Command::Pack {
+                name,
+                rep,
+                count,
+                ty,
+                buffer,
+                origin,
+            } => self.pack(name, *rep, *count, ty, buffer, *origin),
+            Command::Take { session, len } => self.take(session, *len),
+            Command::Seek { session, byte } => self.seek(session, *byte),
+            Command::Close { session } => self.close(session),
             Command::Weights {
                 leaf,
                 vector,

@@ -5,6 +5,7 @@ ghost use Rattle.dt_reply.specs.declared.reply.Reply.TheVariants.{Done};
 use dt_names::{Buffer, Kept};
 use dt_reply::Reply;
 use dt_script::Name;
+use dt_sessions::Opened;
 use dt_tree::Weights;
 
 /// What a command adds to what stands.
@@ -17,6 +18,10 @@ pub(crate) enum Change {
     AddBuffer { name: Name, buffer: Buffer },
     SetWeights { weights: Weights },
     AddCost { cost: u64 },
+    OpenSession { name: Name, opened: Opened },
+    SeekSession { name: Name, byte: u64 },
+    TakeBytes { name: Name, byte: u64, count: u64 },
+    CloseSession { name: Name },
 }
 
 /// The reply to a command that is allowed, and the change that it makes.

@@ -1,11 +1,13 @@
 //! Commands that ask, and change nothing: `info TYPE`, `map TYPE`, `envelope TYPE`, `contents TYPE`,
-//! `show BUFFER`.
+//! `show BUFFER`, `elements REP BYTES TYPE`.
 ghost use Rattle.dt_machine.specs.Outcome.{ComesTo};
-ghost use Rattle.dt_script.specs.declared.command.Command.TheVariants.{Contents, Envelope, Info, Map, Show};
+ghost use Rattle.dt_script.specs.declared.command.Command.TheVariants.{Contents, Elements, Envelope, Info, Map, Show};
 
 use crate::limits::MOST_ENTRIES;
 use crate::machine::Machine;
 use crate::outcome::{Outcome, told};
+use dt_elems::{whole_copies, whole_elements};
+use dt_kinds::Rep;
 use dt_names::Stop;
 use dt_reply::{Refusal, Reply};
 use dt_script::{Bytes, Name};
@@ -64,6 +66,23 @@ impl Machine {
             Err(ContentsFault::NoMemory) => return Err(Stop::NoMemory),
         };
         Ok(told(Reply::Contained(contents)))
+    }
+
+    /// `elements REP BYTES TYPE`
+    pub(crate) fn counts(&self, rep: Rep, bytes: i64, ty: &Name) -> Result<Outcome, Stop>
+        ensures { ComesTo self.now (Elements rep bytes ty.now) result }
+    {
+        let kept = match self.kept(ty) {
+            Ok(kept) => kept,
+            Err(stop) => return Err(stop),
+        };
+        if bytes < 0 {
+            return Err(Stop::Refused(Refusal::BadArgument));
+        }
+        let bytes = bytes.unsigned_abs();
+        let elements = whole_elements(&kept.ty, rep, bytes);
+        let copies = whole_copies(&kept.ty, rep, bytes);
+        Ok(told(Reply::Counted { elements, copies }))
     }
 
     /// `show BUFFER`

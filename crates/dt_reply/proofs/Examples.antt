@@ -12,8 +12,8 @@ use Rattle.dt_form.specs.declared.form.FormOf.TheVariants.{Named, Vector, Hindex
 use Rattle.dt_form.specs.Contents.{contents_of, envelope_of}
 use Rattle.dt_type.specs.Form.{result_of}
 use Rattle.dt_reply.specs.declared.refusal.Refusal.TheVariants.{TooHeavy}
-use Rattle.dt_reply.specs.Reply.{text_of, line_of, info_words, sizes_words, extent_words, true_bounds_words, map_words, envelope_words, number_words, contents_words, listed_words, tree_words}
-use Rattle.dt_reply.specs.declared.reply.Reply.TheVariants.{Packed, Shown, Told, Listed, Described, Contained, Least, Refused}
+use Rattle.dt_reply.specs.Reply.{text_of, line_of, info_words, sizes_words, extent_words, true_bounds_words, map_words, envelope_words, number_words, contents_words, listed_words, tree_words, receipt_words}
+use Rattle.dt_reply.specs.declared.reply.Reply.TheVariants.{Packed, Shown, Told, Listed, Described, Contained, Least, Counted, Opened, Given, Closed, Refused}
 
 abbrev int_at : ℤ → Entry
 int_at x = record { kind = Int; disp = x }
@@ -61,6 +61,27 @@ refused = refl
 least : text_of (Least 4 (negsuc 3) (codes "vector 3 1 8 leaf MPI_INT")) ≡ codes "tree cost 4 base -4 vector 3 1 8 leaf MPI_INT\n"
 unfolding digits line_of tree_words
 least = refl
+
+-- a cut element, and copies that aren't whole
+counted : text_of (Counted 2 (Some 1)) ≡ codes "elements 2 copies 1\n"
+unfolding digits line_of
+counted = refl
+
+counted_cut : text_of (Counted 0 None) ≡ codes "elements 0 copies undefined\n"
+unfolding digits line_of
+counted_cut = refl
+
+given : text_of (Given (record { completed = 1; held = 2; bytes = 6; elements = 3; copies = None })) ≡ codes "given 1 held 2 bytes 6 elements 3 copies undefined\n"
+unfolding digits line_of receipt_words number_words
+given = refl
+
+closed : text_of (Closed 3 8) ≡ codes "closed bytes 3 of 8\n"
+unfolding digits line_of
+closed = refl
+
+opened : text_of (Opened 16) ≡ codes "ok 16\n"
+unfolding digits line_of
+opened = refl
 
 abbrev int : Seen
 int = result_of (Named Int)

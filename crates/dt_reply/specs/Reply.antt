@@ -17,8 +17,9 @@ use Rattle.dt_form.specs.declared.form.FormOf.TheVariants.{Named}
 use Rattle.dt_form.specs.Contents.{combiner_of}
 use Rattle.dt_type.specs.Datatype.{form_of}
 use Rattle.dt_reply.specs.Refusal.{number_of, word_of}
+use Rattle.dt_reply.specs.declared.receipt.Receipt.{Receipt}
 use Rattle.dt_reply.specs.declared.reply.Reply.{Reply}
-use Rattle.dt_reply.specs.declared.reply.Reply.TheVariants.{Silent, Done, Packed, Shown, Told, Listed, Described, Contained, Least, Refused}
+use Rattle.dt_reply.specs.declared.reply.Reply.TheVariants.{Silent, Done, Packed, Shown, Told, Listed, Described, Contained, Least, Counted, Opened, Given, Closed, Refused}
 
 -- a word behind a space
 abbrev pub spaced : List ℕ → List ℕ
@@ -132,6 +133,30 @@ contents_words c =
 unfoldable pub tree_words : ℕ → ℤ → List ℕ → List (List ℕ)
 tree_words cost base text = codes "cost" ∷ decimal cost ∷ codes "base" ∷ signed_decimal base ∷ text ∷ []
 
+-- how many copies, where they are whole
+abbrev pub copies_word : Option ℕ → List ℕ
+copies_word None = codes "undefined"
+copies_word (Some copies) = decimal copies
+
+-- the copies behind their name
+abbrev pub copies_words : Option ℕ → List (List ℕ)
+copies_words copies = codes "copies" ∷ copies_word copies ∷ []
+
+-- the elements and the copies among received bytes
+abbrev pub counts_words : ℕ → Option ℕ → List (List ℕ)
+counts_words elements copies = decimal elements ∷ copies_words copies
+
+-- how many elements a piece completed and how many bytes of a further one are held; and how many bytes were given in all, and the
+-- elements and copies among them
+unfoldable pub receipt_words : Receipt → List (List ℕ)
+receipt_words r =
+    decimal r.completed ∷ (number_words (codes "held") r.held ++ number_words (codes "bytes") r.bytes
+    ++ number_words (codes "elements") r.elements ++ copies_words r.copies)
+
+-- how many packed bytes were passed, and how many there are
+abbrev pub closed_words : ℕ → ℕ → List (List ℕ)
+closed_words passed all = codes "bytes" ∷ decimal passed ∷ codes "of" ∷ decimal all ∷ []
+
 -- the line that a reply writes
 abbrev pub text_of : Reply → List ℕ
 text_of Silent = []
@@ -143,6 +168,10 @@ text_of (Listed m) = line_of (codes "map") (map_words m)
 text_of (Described envelope) = line_of (codes "envelope") (envelope_words envelope)
 text_of (Contained contents) = line_of (codes "contents") (contents_words contents)
 text_of (Least cost base text) = line_of (codes "tree") (tree_words cost base text)
+text_of (Counted elements copies) = line_of (codes "elements") (counts_words elements copies)
+text_of (Opened all) = line_of (codes "ok") (decimal all ∷ [])
+text_of (Given receipt) = line_of (codes "given") (receipt_words receipt)
+text_of (Closed passed all) = line_of (codes "closed") (closed_words passed all)
 text_of (Refused refusal) = line_of (codes "refused") (decimal (number_of refusal) ∷ word_of refusal ∷ [])
 
 -- every reply but a refusal

@@ -2,12 +2,14 @@
 #![tactic(auto)]
 
 mod arguments;
+pub mod receipt;
 pub mod refusal;
 pub mod reply;
 mod text;
 
+pub use receipt::Receipt;
 pub use refusal::Refusal;
 pub use reply::{
-    OK, Reply, contents_line, envelope_line, info_line, map_line, ok_line, packed_line,
-    refusal_line, shown_line, tree_line,
+    OK, Reply, closed_line, contents_line, counts_line, envelope_line, info_line, map_line,
+    ok_line, opened_line, packed_line, receipt_line, refusal_line, shown_line, tree_line,
 };

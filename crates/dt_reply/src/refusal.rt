@@ -7,12 +7,14 @@ ghost use Rattle.dt_reply.specs.Refusal.{number_of, word_of};
 pub enum Refusal {
     /// The line is in no line form.
     Syntax,
-    /// A type or a buffer that is used doesn't stand, or a name of MPI that is used names no basic type.
+    /// A type, a buffer or a session that is used doesn't stand, or a name of MPI that is used names no basic type.
     UnknownName,
     /// The name to be made stands already, or would be a type's and begins as those of MPI do.
     NameTaken,
     /// A basic type that is used is left out by this library, such as `MPI_DOUBLE`.
     UnsupportedKind,
+    /// A session would be opened over a type that isn't committed.
+    NotCommitted,
     /// A basic type would be freed.
     BasicType,
     /// The contents, or an old type, of a basic type is asked for.
@@ -27,14 +29,20 @@ pub enum Refusal {
     TooDeep,
     /// The type to be made would list too many blocks, displacements and parts.
     TooHeavy,
-    /// As many types, or buffers, as may stand do stand.
+    /// As many types, buffers or sessions as may stand do stand.
     TooManyNames,
     /// The typemap has more entries than a reply may list, or than a least tree is looked for.
     TooManyEntries,
     /// Some byte of some element lies outside the buffer.
     Outside,
-    /// A buffer, all buffers together or the packed bytes would have too many bytes.
+    /// Two elements that would be written have a common byte.
+    Overlap,
+    /// A buffer, all buffers together, the packed bytes or those of all sessions together would be too many bytes.
     TooLarge,
+    /// Bytes would be taken from an unpack session, or sought in it, or given to a pack session.
+    WrongDirection,
+    /// More bytes would be given than are still to come.
+    Truncated,
 }
 
 impl Refusal {
@@ -47,6 +55,7 @@ impl Refusal {
             Refusal::UnknownName => 2,
             Refusal::NameTaken => 3,
             Refusal::UnsupportedKind => 4,
+            Refusal::NotCommitted => 5,
             Refusal::BasicType => 6,
             Refusal::NamedType => 7,
             Refusal::NoSuchChild => 8,
@@ -57,7 +66,10 @@ impl Refusal {
             Refusal::TooManyNames => 13,
             Refusal::TooManyEntries => 14,
             Refusal::Outside => 15,
+            Refusal::Overlap => 16,
             Refusal::TooLarge => 17,
+            Refusal::WrongDirection => 18,
+            Refusal::Truncated => 19,
         }
     }
 
@@ -70,6 +82,7 @@ impl Refusal {
             Refusal::UnknownName => "unknown name",
             Refusal::NameTaken => "name taken",
             Refusal::UnsupportedKind => "unsupported kind",
+            Refusal::NotCommitted => "not committed",
             Refusal::BasicType => "basic type",
             Refusal::NamedType => "named type",
             Refusal::NoSuchChild => "no such child",
@@ -80,7 +93,10 @@ impl Refusal {
             Refusal::TooManyNames => "too many names",
             Refusal::TooManyEntries => "too many entries",
             Refusal::Outside => "outside",
+            Refusal::Overlap => "overlap",
             Refusal::TooLarge => "too large",
+            Refusal::WrongDirection => "wrong direction",
+            Refusal::Truncated => "truncated",
         }
     }
 }

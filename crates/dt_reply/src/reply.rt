@@ -1,13 +1,14 @@
 //! What is replied, and the line that says so. Each line is made in new memory, and `NoMemory` is answered where that runs out.
 ghost use Rattle.std.specs.Prelude.{◌≡◌, ◌++◌, IfOk, OnOk, OnErr};
 ghost use Rattle.dt_reply.specs.Reply.{text_of, is_accepted, bytes_words, line_of};
-ghost use Rattle.dt_reply.specs.declared.reply.Reply.TheVariants.{Contained, Described, Done, Least, Listed, Packed, Refused, Shown, Told};
+ghost use Rattle.dt_reply.specs.declared.reply.Reply.TheVariants.{Closed, Contained, Counted, Described, Done, Given, Least, Listed, Opened, Packed, Refused, Shown, Told};
 
 use crate::arguments::{push_envelope, push_listed, push_types};
+use crate::receipt::Receipt;
 use crate::refusal::Refusal;
 use crate::text::{
-    push_committed, push_entries, push_extent, push_field, push_hex, push_marks, push_number,
-    push_sizes, push_true_bounds, push_word,
+    push_committed, push_copies, push_entries, push_extent, push_field, push_hex, push_marks,
+    push_number, push_receipt, push_sizes, push_true_bounds, push_word,
 };
 use dt_kinds::NoMemory;
 use dt_map::{Bounds, FlatMap};
@@ -136,6 +137,53 @@ pub fn tree_line(alloc: Global, cost: u64, base: i64, text: &[u8]) -> Result<Vec
     Ok(line)
 }
 
+/// `elements ELEMENTS copies COPIES`: the elements and the copies among received bytes, with `undefined` where the copies aren't whole
+/// (MPI 4.1, sections 3.2.5 and 5.1.11).
+#[tactic(auto, unfolding(crate::specs::Reply::line_of))]
+pub fn counts_line(alloc: Global, elements: u64, copies: Option<u64>) -> Result<Vec<u8>, NoMemory>
+    ensures { IfOk result (λ line. line.items ≡ text_of (Counted elements copies)) }
+{
+    let mut line = Vec::from_slice(alloc, b"elements")?;
+    push_number(&mut line, elements)?;
+    push_copies(&mut line, copies)?;
+    line.extend_from_slice(b"\n")?;
+    Ok(line)
+}
+
+/// `ok TOTAL`: a session was opened over so many packed bytes.
+#[tactic(auto, unfolding(crate::specs::Reply::line_of))]
+pub fn opened_line(alloc: Global, all: u64) -> Result<Vec<u8>, NoMemory>
+    ensures { IfOk result (λ line. line.items ≡ text_of (Opened all)) }
+{
+    let mut line = Vec::from_slice(alloc, b"ok")?;
+    push_number(&mut line, all)?;
+    line.extend_from_slice(b"\n")?;
+    Ok(line)
+}
+
+/// `given NEW held HELD bytes BYTES elements ELEMENTS copies COPIES`: what a piece came to.
+#[tactic(auto, unfolding(crate::specs::Reply::line_of))]
+pub fn receipt_line(alloc: Global, receipt: Receipt) -> Result<Vec<u8>, NoMemory>
+    ensures { IfOk result (λ line. line.items ≡ text_of (Given receipt)) }
+{
+    let mut line = Vec::from_slice(alloc, b"given")?;
+    push_receipt(&mut line, receipt)?;
+    line.extend_from_slice(b"\n")?;
+    Ok(line)
+}
+
+/// `closed bytes DONE of TOTAL`: a session ended at so many packed bytes.
+#[tactic(auto, unfolding(crate::specs::Reply::line_of))]
+pub fn closed_line(alloc: Global, passed: u64, all: u64) -> Result<Vec<u8>, NoMemory>
+    ensures { IfOk result (λ line. line.items ≡ text_of (Closed passed all)) }
+{
+    let mut line = Vec::from_slice(alloc, b"closed")?;
+    push_field(&mut line, b"bytes", passed)?;
+    push_field(&mut line, b"of", all)?;
+    line.extend_from_slice(b"\n")?;
+    Ok(line)
+}
+
 /// What is replied to a line.
 #[derive(Drop)]
 pub enum Reply {
@@ -157,6 +205,14 @@ pub enum Reply {
     Contained(Contents),
     /// What a least tree costs, where it begins, in bytes, and its text.
     Least { cost: u64, base: i64, text: Bytes },
+    /// The elements among received bytes, and the copies where they are whole.
+    Counted { elements: u64, copies: Option<u64> },
+    /// A session was opened over so many packed bytes.
+    Opened(u64),
+    /// What a piece came to that a session was given.
+    Given(Receipt),
+    /// A session ended: how many packed bytes were passed, and how many there are.
+    Closed { passed: u64, all: u64 },
     /// A refusal.
     Refused(Refusal),
 }
@@ -176,6 +232,10 @@ impl Reply {
             Reply::Described(envelope) => envelope_line(alloc, *envelope),
             Reply::Contained(contents) => contents_line(alloc, contents),
             Reply::Least { cost, base, text } => tree_line(alloc, *cost, *base, text.as_slice()),
+            Reply::Counted { elements, copies } => counts_line(alloc, *elements, *copies),
+            Reply::Opened(all) => opened_line(alloc, *all),
+            Reply::Given(receipt) => receipt_line(alloc, *receipt),
+            Reply::Closed { passed, all } => closed_line(alloc, *passed, *all),
             Reply::Refused(refusal) => refusal_line(alloc, *refusal),
         }
     }

@@ -1,8 +1,9 @@
 //! The words of a line, appended one after another.
 ghost use Rattle.std.specs.Prelude.{◌≡◌, ◌++◌, OnOk, flat_map, map};
 ghost use Rattle.hex.specs.Hex.{encode_lower};
-ghost use Rattle.dt_reply.specs.Reply.{committed_words, entry_word, extent_words, hex_text, marks_words, sizes_words, spaced, true_bounds_words, yes_or_no};
+ghost use Rattle.dt_reply.specs.Reply.{committed_words, copies_words, entry_word, receipt_words, extent_words, hex_text, marks_words, sizes_words, spaced, true_bounds_words, yes_or_no};
 
+use crate::receipt::Receipt;
 use dt_kinds::NoMemory;
 use dt_map::{Bounds, Entry, Marks};
 use itoa::{Buffer, Integer};
@@ -118,6 +119,29 @@ pub(crate) fn push_marks(out: &mut Vec<u8>, marks: Option<Marks>) -> Result<(), 
             push_number(out, marks.ub)
         }
     }
+}
+
+/// Appends how many copies there are, behind their name, or that they aren't whole.
+pub(crate) fn push_copies(out: &mut Vec<u8>, copies: Option<u64>) -> Result<(), NoMemory>
+    ensures { OnOk result (out.new.items ≡ out.old.items ++ flat_map spaced (copies_words copies)) }
+{
+    push_word(out, b"copies")?;
+    match copies {
+        None => push_word(out, b"undefined"),
+        Some(copies) => push_number(out, copies),
+    }
+}
+
+/// Appends what a piece came to.
+#[tactic(auto, unfolding(crate::specs::Reply::receipt_words, crate::specs::Reply::number_words))]
+pub(crate) fn push_receipt(out: &mut Vec<u8>, receipt: Receipt) -> Result<(), NoMemory>
+    ensures { OnOk result (out.new.items ≡ out.old.items ++ flat_map spaced (receipt_words receipt)) }
+{
+    push_number(out, receipt.completed)?;
+    push_field(out, b"held", receipt.held)?;
+    push_field(out, b"bytes", receipt.bytes)?;
+    push_field(out, b"elements", receipt.elements)?;
+    push_copies(out, receipt.copies)
 }
 
 /// Appends the entries in order.

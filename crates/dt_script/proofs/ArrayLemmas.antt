@@ -1,4 +1,4 @@
--- The words of arrays are read exactly where they are spelled so.
+-- The words of arrays, and of representations, are read exactly where they are spelled so.
 use Rattle.std.proofs.Common.{◌≡◌, ℕ, ℤ, true, false, cond, List, ◌∷◌, ◌++◌, Option, Some, None, option_map, refl, ap, sym, subst, ◌∙◌, codes}
 use Rattle.std.proofs.lemmas.Slice.Eq.{bytes_eq-Decides}
 use Rattle.std.specs.Str.{bytes_eq}
@@ -8,10 +8,12 @@ use Rattle.dt_form.specs.declared.form.DistDim.{DistDim}
 use Rattle.dt_form.specs.declared.form.Order.{Order}
 use Rattle.dt_form.specs.declared.form.Order.TheVariants.{C, Fortran}
 use Rattle.dt_form.specs.declared.form.SubDim.{SubDim}
+use Rattle.dt_kinds.specs.declared.kind.Rep.{Rep}
+use Rattle.dt_kinds.specs.declared.kind.Rep.TheVariants.{Native, External32}
 use Rattle.dt_script.specs.Array.{order_of, dist_of, darg_of}
-use Rattle.dt_script.specs.Item.{IsOrder, IsDist, IsDarg, IsSubDim, IsDistDim}
+use Rattle.dt_script.specs.Item.{IsRep, IsOrder, IsDist, IsDarg, IsSubDim, IsDistDim}
 use Rattle.dt_script.specs.Number.{int_of}
-use Rattle.dt_script.specs.Reading.{cut_of, colon_cut, sub_dim_of, dist_dim_of}
+use Rattle.dt_script.specs.Reading.{cut_of, colon_cut, rep_of, sub_dim_of, dist_dim_of}
 use Rattle.dt_script.proofs.CutLemmas.{cut_sound, int_cut}
 use Rattle.dt_script.proofs.ReadingLemmas.{bind_some, from_some}
 
@@ -24,6 +26,16 @@ spelled Is k w x other y is e else =
           from_some (λ y. Is w y) x y told (subst (λ v. Is v x) (sym ((bytes_eq-Decides w k).0 same)) is)
       | false ↦ λ same told. else told
     ] refl e
+
+pub rep_sound : (word : List ℕ) (rep : Rep) → rep_of word ≡ Some rep → IsRep word rep
+rep_sound word rep e =
+    spelled IsRep (codes "native") word Native _ rep refl e (λ e.
+    spelled IsRep (codes "external32") word External32 _ rep refl e (λ e.
+    cc))
+
+pub rep_complete : (word : List ℕ) (rep : Rep) → IsRep word rep → rep_of word ≡ Some rep
+rep_complete word Native at = rw at refl
+rep_complete word External32 at = rw at refl
 
 pub order_sound : (word : List ℕ) (order : Order) → order_of word ≡ Some order → IsOrder word order
 order_sound word order e =

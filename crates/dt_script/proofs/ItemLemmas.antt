@@ -1,8 +1,8 @@
 -- A word is read as an item exactly where it spells it.
 use Rattle.std.proofs.Common.{◌≡◌, ℕ, List, Some}
-use Rattle.dt_script.specs.Item.{Item, INT, ADDR, NAME, HEX, ORDER, INT_BLOCK, ADDR_BLOCK, PART, SUB_DIM, DIST_DIM, Value, IsItem}
+use Rattle.dt_script.specs.Item.{Item, INT, ADDR, NAME, HEX, REP, ORDER, INT_BLOCK, ADDR_BLOCK, PART, SUB_DIM, DIST_DIM, Value, IsItem}
 use Rattle.dt_script.specs.Reading.{item_of}
-use Rattle.dt_script.proofs.ArrayLemmas.{order_sound, order_complete, sub_dim_sound, sub_dim_complete, dist_dim_sound, dist_dim_complete}
+use Rattle.dt_script.proofs.ArrayLemmas.{rep_sound, rep_complete, order_sound, order_complete, sub_dim_sound, sub_dim_complete, dist_dim_sound, dist_dim_complete}
 use Rattle.dt_script.proofs.BlockLemmas.{int_block_sound, int_block_complete, address_block_sound, address_block_complete, part_sound, part_complete}
 use Rattle.dt_script.proofs.ReadingLemmas.{name_some, name_complete}
 
@@ -11,6 +11,7 @@ item_sound INT word x e = e
 item_sound ADDR word x e = e
 item_sound NAME word x e = name_some word x e
 item_sound HEX word x e = e
+item_sound REP word x e = rep_sound word x e
 item_sound ORDER word x e = order_sound word x e
 item_sound INT_BLOCK word x e = int_block_sound word x e
 item_sound ADDR_BLOCK word x e = address_block_sound word x e
@@ -23,6 +24,7 @@ item_complete INT word x is = is
 item_complete ADDR word x is = is
 item_complete NAME word x is = name_complete word x is
 item_complete HEX word x is = is
+item_complete REP word x is = rep_complete word x is
 item_complete ORDER word x is = order_complete word x is
 item_complete INT_BLOCK word x is = int_block_complete word x is
 item_complete ADDR_BLOCK word x is = address_block_complete word x is

@@ -1,13 +1,12 @@
 -- The line forms as relations between the words of a line and a command, one case for each form.
 use Rattle.std.specs.Prelude.{codes}
-use Rattle.dt_kinds.specs.declared.kind.Rep.TheVariants.{Native, External32}
 use Rattle.dt_script.specs.declared.command.Command.{Command}
-use Rattle.dt_script.specs.declared.command.Command.TheVariants.{Define, Child, Commit, Free, Info, Map, Envelope, Contents, Buffer, Show, Bytes, Weights, Normalise, Rebuild}
+use Rattle.dt_script.specs.declared.command.Command.TheVariants.{Define, Child, Commit, Free, Info, Map, Envelope, Contents, Buffer, Show, Bytes, Elements, Pack, Take, Seek, Close, Weights, Normalise, Rebuild}
 use Rattle.dt_script.specs.declared.command.Ctor.{Ctor}
 use Rattle.dt_script.specs.declared.command.Ctor.TheVariants.{Contiguous, Vector, Hvector, Indexed, Hindexed, IndexedBlock, HindexedBlock, Struct, Resized, Dup, Subarray, Darray}
 use Rattle.dt_script.specs.declared.command.Fill.{Fill}
 use Rattle.dt_script.specs.declared.command.Fill.TheVariants.{Zero, Count, Hex}
-use Rattle.dt_script.specs.Item.{INT, ADDR, NAME, HEX, ORDER, INT_BLOCK, ADDR_BLOCK, PART, SUB_DIM, DIST_DIM, Words, ◌spell◌, ◌then◌, the, item, each, end}
+use Rattle.dt_script.specs.Item.{INT, ADDR, NAME, HEX, REP, ORDER, INT_BLOCK, ADDR_BLOCK, PART, SUB_DIM, DIST_DIM, Words, ◌spell◌, ◌then◌, the, item, each, end}
 
 -- what follows `=` in `type NAME = CTOR`
 abbrev pub IsCtor : Words → Ctor → Type 0
@@ -51,9 +50,14 @@ IsCommand words (Envelope ty) = words spell the (codes "envelope") then item NAM
 IsCommand words (Contents ty) = words spell the (codes "contents") then item NAME ty then end
 IsCommand words (Buffer name fill) = words spell the (codes "buffer") then item NAME name then λ behind. IsFill behind fill
 IsCommand words (Show buffer) = words spell the (codes "show") then item NAME buffer then end
-IsCommand words (Bytes Native count ty buffer origin) =
-    words spell the (codes "bytes") then the (codes "native") then item INT count then item NAME ty then item NAME buffer then item ADDR origin then end
-IsCommand words (Bytes External32 count ty buffer origin) = ⊥
+IsCommand words (Bytes rep count ty buffer origin) =
+    words spell the (codes "bytes") then item REP rep then item INT count then item NAME ty then item NAME buffer then item ADDR origin then end
+IsCommand words (Elements rep bytes ty) = words spell the (codes "elements") then item REP rep then item ADDR bytes then item NAME ty then end
+IsCommand words (Pack name rep count ty buffer origin) =
+    words spell the (codes "pack") then item NAME name then item REP rep then item INT count then item NAME ty then item NAME buffer then item ADDR origin then end
+IsCommand words (Take session len) = words spell the (codes "take") then item NAME session then item INT len then end
+IsCommand words (Seek session byte) = words spell the (codes "seek") then item NAME session then item ADDR byte then end
+IsCommand words (Close session) = words spell the (codes "close") then item NAME session then end
 IsCommand words (Weights leaf vector index place group part) =
     words spell the (codes "weights") then item INT leaf then item INT vector then item INT index then item INT place then item INT group then item INT part then end
 IsCommand words (Normalise ty) = words spell the (codes "normalise") then item NAME ty then end

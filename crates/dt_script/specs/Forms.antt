@@ -1,14 +1,13 @@
 -- The line forms by description: the words of each in their order, which say how it is read.
 use Rattle.std.specs.Prelude.{List, [], ◌∷◌, Option, codes}
-use Rattle.dt_kinds.specs.declared.kind.Rep.TheVariants.{Native}
 use Rattle.dt_script.specs.declared.command.Command.{Command}
-use Rattle.dt_script.specs.declared.command.Command.TheVariants.{Define, Child, Commit, Free, Info, Map, Envelope, Contents, Buffer, Show, Bytes, Weights, Normalise, Rebuild}
+use Rattle.dt_script.specs.declared.command.Command.TheVariants.{Define, Child, Commit, Free, Info, Map, Envelope, Contents, Buffer, Show, Bytes, Elements, Pack, Take, Seek, Close, Weights, Normalise, Rebuild}
 use Rattle.dt_script.specs.declared.command.Ctor.{Ctor}
 use Rattle.dt_script.specs.declared.command.Ctor.TheVariants.{Contiguous, Vector, Hvector, Indexed, Hindexed, IndexedBlock, HindexedBlock, Struct, Resized, Dup, Subarray, Darray}
 use Rattle.dt_script.specs.declared.command.Fill.{Fill}
 use Rattle.dt_script.specs.declared.command.Fill.TheVariants.{Zero, Count, Hex}
 use Rattle.dt_script.specs.Command.{IsCtor, IsFill}
-use Rattle.dt_script.specs.Item.{INT, ADDR, NAME, HEX, ORDER, INT_BLOCK, ADDR_BLOCK, PART, SUB_DIM, DIST_DIM, Words}
+use Rattle.dt_script.specs.Item.{INT, ADDR, NAME, HEX, REP, ORDER, INT_BLOCK, ADDR_BLOCK, PART, SUB_DIM, DIST_DIM, Words}
 use Rattle.dt_script.specs.Form.{END, WORD, ◌&◌, EACH, REST, Rest, Form, form, any_of}
 
 -- constructors
@@ -115,7 +114,22 @@ abbrev pub show : Form Command
 show = form (codes "show") (NAME & END) Show
 
 abbrev pub bytes : Form Command
-bytes = form (codes "bytes") (WORD (codes "native") (INT & NAME & NAME & ADDR & END)) (Bytes Native)
+bytes = form (codes "bytes") (REP & INT & NAME & NAME & ADDR & END) Bytes
+
+abbrev pub counts : Form Command
+counts = form (codes "elements") (REP & ADDR & NAME & END) Elements
+
+abbrev pub pack : Form Command
+pack = form (codes "pack") (NAME & REP & INT & NAME & NAME & ADDR & END) Pack
+
+abbrev pub take : Form Command
+take = form (codes "take") (NAME & INT & END) Take
+
+abbrev pub seek : Form Command
+seek = form (codes "seek") (NAME & ADDR & END) Seek
+
+abbrev pub close : Form Command
+close = form (codes "close") (NAME & END) Close
 
 abbrev pub weights : Form Command
 weights = form (codes "weights") (INT & INT & INT & INT & INT & INT & END) Weights
@@ -126,12 +140,15 @@ normalise = form (codes "normalise") (NAME & END) Normalise
 abbrev pub rebuild : Form Command
 rebuild = form (codes "rebuild") (NAME & WORD (codes "=") (NAME & END)) Rebuild
 
--- those on trees; those on buffers, and the former; those that ask about types, and these; and all
+-- those on sessions; those on trees, and the former; those on buffers and received bytes, and these; those that ask about types, and these; and all
+unfoldable pub session_forms : List (Form Command)
+session_forms = pack ∷ take ∷ seek ∷ close ∷ []
+
 unfoldable pub tree_forms : List (Form Command)
-tree_forms = weights ∷ normalise ∷ rebuild ∷ []
+tree_forms = weights ∷ normalise ∷ rebuild ∷ session_forms
 
 unfoldable pub buffer_forms : List (Form Command)
-buffer_forms = buffer ∷ show ∷ bytes ∷ tree_forms
+buffer_forms = buffer ∷ show ∷ bytes ∷ counts ∷ tree_forms
 
 unfoldable pub question_forms : List (Form Command)
 question_forms = info ∷ map ∷ envelope ∷ contents ∷ buffer_forms

@@ -8,6 +8,8 @@ use Rattle.dt_form.specs.declared.form.DistDim.{DistDim}
 use Rattle.dt_form.specs.declared.form.Order.{Order}
 use Rattle.dt_form.specs.declared.form.Order.TheVariants.{C, Fortran}
 use Rattle.dt_form.specs.declared.form.SubDim.{SubDim}
+use Rattle.dt_kinds.specs.declared.kind.Rep.{Rep}
+use Rattle.dt_kinds.specs.declared.kind.Rep.TheVariants.{Native, External32}
 use Rattle.dt_script.specs.declared.command.NamedPart.{NamedPart}
 use Rattle.dt_script.specs.Hex.{hex_of}
 use Rattle.dt_script.specs.Name.{is_name}
@@ -47,6 +49,11 @@ IsPart word part =
     (len disp : List ℕ) × (word ≡ joined (codes "@") len (joined (codes "@") disp part.old))
     × IsInt len part.len × IsAddress disp part.disp × IsTrue (is_name part.old)
 
+-- `native` or `external32`
+abbrev pub IsRep : List ℕ → Rep → Type 0
+IsRep word Native = word ≡ codes "native"
+IsRep word External32 = word ≡ codes "external32"
+
 -- `c` or `fortran`
 abbrev pub IsOrder : List ℕ → Order → Type 0
 IsOrder word C = word ≡ codes "c"
@@ -78,7 +85,7 @@ IsDistDim word dim =
 
 -- the kinds of words that a line form may ask for, beside words that stand there as they are
 pub data Item : Type 0 where
-  INT ADDR NAME HEX ORDER INT_BLOCK ADDR_BLOCK PART SUB_DIM DIST_DIM : Item
+  INT ADDR NAME HEX REP ORDER INT_BLOCK ADDR_BLOCK PART SUB_DIM DIST_DIM : Item
 
 -- what a word of a kind spells
 abbrev pub Value : Item → Type 0
@@ -86,6 +93,7 @@ Value INT = ℤ
 Value ADDR = ℤ
 Value NAME = List ℕ
 Value HEX = List ℕ
+Value REP = Rep
 Value ORDER = Order
 Value INT_BLOCK = IntBlock
 Value ADDR_BLOCK = AddrBlock
@@ -99,6 +107,7 @@ IsItem INT = IsInt
 IsItem ADDR = IsAddress
 IsItem NAME = IsName
 IsItem HEX = IsHex
+IsItem REP = IsRep
 IsItem ORDER = IsOrder
 IsItem INT_BLOCK = IsIntBlock
 IsItem ADDR_BLOCK = IsAddrBlock

@@ -1,16 +1,18 @@
 -- Words read from left to right: what stands at the front of some words, and the words behind it.
-use Rattle.std.specs.Prelude.{◌≡◌, ℕ, ◌==◌, if◌then◌else◌, List, [], ◌∷◌, Option, Some, None, Result, Ok, Err}
+use Rattle.std.specs.Prelude.{◌≡◌, ℕ, ◌==◌, if◌then◌else◌, List, [], ◌∷◌, Option, Some, None, Result, Ok, Err, codes}
 use Rattle.std.specs.Str.{bytes_eq}
 use Rattle.dt_form.specs.declared.form.IntBlock.{IntBlock}
 use Rattle.dt_form.specs.declared.form.AddrBlock.{AddrBlock}
 use Rattle.dt_form.specs.declared.form.DistDim.{DistDim}
 use Rattle.dt_form.specs.declared.form.SubDim.{SubDim}
+use Rattle.dt_kinds.specs.declared.kind.Rep.{Rep}
+use Rattle.dt_kinds.specs.declared.kind.Rep.TheVariants.{Native, External32}
 use Rattle.dt_script.specs.Array.{order_of, dist_of, darg_of}
 use Rattle.dt_script.specs.declared.command.NamedPart.{NamedPart}
 use Rattle.dt_script.specs.declared.line.LineFault.{LineFault}
 use Rattle.dt_script.specs.declared.line.LineFault.TheVariants.{Syntax}
 use Rattle.dt_script.specs.Hex.{hex_of}
-use Rattle.dt_script.specs.Item.{Item, INT, ADDR, NAME, HEX, ORDER, INT_BLOCK, ADDR_BLOCK, PART, SUB_DIM, DIST_DIM, Value}
+use Rattle.dt_script.specs.Item.{Item, INT, ADDR, NAME, HEX, REP, ORDER, INT_BLOCK, ADDR_BLOCK, PART, SUB_DIM, DIST_DIM, Value}
 use Rattle.dt_script.specs.Name.{name_of}
 use Rattle.dt_script.specs.Number.{int_of, address_of}
 
@@ -66,6 +68,13 @@ cut_of mark [] = None
 cut_of mark (b ∷ bytes) = if b == mark then Some ([], bytes) else do
   cut ← cut_of mark bytes
   Some (b ∷ cut.0, cut.1)
+
+-- the representation that a word names
+abbrev pub rep_of : List ℕ → Option Rep
+rep_of word =
+    if bytes_eq word (codes "native") then Some Native
+    else if bytes_eq word (codes "external32") then Some External32
+    else None
 
 -- cut at the first `@`
 abbrev pub at_sign_cut : List ℕ → Option (List ℕ × List ℕ)
@@ -124,6 +133,7 @@ item_of INT = int_of
 item_of ADDR = address_of
 item_of NAME = name_of
 item_of HEX = hex_of
+item_of REP = rep_of
 item_of ORDER = order_of
 item_of INT_BLOCK = int_block_of
 item_of ADDR_BLOCK = address_block_of

@@ -62,6 +62,35 @@ pub enum Command {
         buffer: Name,
         origin: i64,
     },
+    /// `elements REP BYTES TYPE`
+    Elements {
+        rep: Rep,
+        bytes: i64,
+        ty: Name,
+    },
+    /// `pack SESSION REP COUNT TYPE BUFFER ORIGIN`
+    Pack {
+        name: Name,
+        rep: Rep,
+        count: i32,
+        ty: Name,
+        buffer: Name,
+        origin: i64,
+    },
+    /// `take SESSION LENGTH`
+    Take {
+        session: Name,
+        len: i32,
+    },
+    /// `seek SESSION BYTE`
+    Seek {
+        session: Name,
+        byte: i64,
+    },
+    /// `close SESSION`
+    Close {
+        session: Name,
+    },
     /// `weights LEAF VECTOR INDEX PLACE GROUP PART`
     Weights {
         leaf: i32,

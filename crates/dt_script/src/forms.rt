@@ -3,7 +3,7 @@ ghost use Rattle.std.specs.Prelude.{◌≡◌};
 ghost use Rattle.dt_script.specs.Words.{words_of};
 ghost use Rattle.dt_script.specs.Reading.{Gives};
 ghost use Rattle.dt_script.specs.Form.{behind, one_of};
-ghost use Rattle.dt_script.specs.Forms.{hex, fill_of, define, child, buffer, bytes, weights, rebuild, tree_forms, buffer_forms, question_forms, command_of};
+ghost use Rattle.dt_script.specs.Forms.{hex, fill_of, define, child, buffer, weights, rebuild, session_forms, tree_forms, buffer_forms, question_forms, command_of};
 
 use crate::command::{Command, Fill};
 use crate::ctors::ctor;
@@ -11,7 +11,6 @@ use crate::fields::Fields;
 use crate::line::LineFault;
 use crate::name::Name;
 use crate::reading::{end, hex, item, keyword, word};
-use dt_kinds::Rep;
 use std::alloc::Global;
 
 /// `HEX`
@@ -71,21 +70,6 @@ fn buffer(alloc: Global, line: &[u8]) -> Result<Command, LineFault>
     Ok(Command::Buffer { name, fill })
 }
 
-/// `native COUNT TYPE BUFFER ORIGIN`
-fn bytes(alloc: Global, line: &[u8]) -> Result<Command, LineFault>
-    ensures { Gives (λ x. x) result (behind bytes (words_of line.now)) }
-{
-    let line = keyword(b"native", line)?;
-    let (count, (ty, (buffer, (origin, ())))) = Fields::read(alloc, line)?;
-    Ok(Command::Bytes {
-        rep: Rep::Native,
-        count,
-        ty,
-        buffer,
-        origin,
-    })
-}
-
 /// `LEAF VECTOR INDEX PLACE GROUP PART`
 fn weights(alloc: Global, line: &[u8]) -> Result<Command, LineFault>
     ensures { Gives (λ x. x) result (behind weights (words_of line.now)) }
@@ -111,7 +95,36 @@ fn rebuild(alloc: Global, line: &[u8]) -> Result<Command, LineFault>
     Ok(Command::Rebuild { name, ty })
 }
 
-/// What follows the first word of a command on trees.
+/// What follows the first word of a command on sessions.
+#[tactic(auto, unfolding(crate::specs::Forms::session_forms))]
+fn on_sessions(alloc: Global, first: &[u8], line: &[u8]) -> Result<Command, LineFault>
+    ensures { Gives (λ x. x) result (one_of session_forms first.now (words_of line.now)) }
+{
+    if first == b"pack".as_slice() {
+        let (name, (rep, (count, (ty, (buffer, (origin, ())))))) = Fields::read(alloc, line)?;
+        Ok(Command::Pack {
+            name,
+            rep,
+            count,
+            ty,
+            buffer,
+            origin,
+        })
+    } else if first == b"take".as_slice() {
+        let (session, (len, ())) = Fields::read(alloc, line)?;
+        Ok(Command::Take { session, len })
+    } else if first == b"seek".as_slice() {
+        let (session, (byte, ())) = Fields::read(alloc, line)?;
+        Ok(Command::Seek { session, byte })
+    } else if first == b"close".as_slice() {
+        let (session, ()) = Fields::read(alloc, line)?;
+        Ok(Command::Close { session })
+    } else {
+        Err(LineFault::Syntax)
+    }
+}
+
+/// What follows the first word of a command on trees, or of one on sessions.
 #[tactic(auto, unfolding(crate::specs::Forms::tree_forms))]
 fn on_trees(alloc: Global, first: &[u8], line: &[u8]) -> Result<Command, LineFault>
     ensures { Gives (λ x. x) result (one_of tree_forms first.now (words_of line.now)) }
@@ -124,11 +137,11 @@ fn on_trees(alloc: Global, first: &[u8], line: &[u8]) -> Result<Command, LineFau
     } else if first == b"rebuild".as_slice() {
         rebuild(alloc, line)
     } else {
-        Err(LineFault::Syntax)
+        on_sessions(alloc, first, line)
     }
 }
 
-/// What follows the first word of a command on buffers, or of one on trees.
+/// What follows the first word of a command on buffers or received bytes, or of one on trees.
 #[tactic(auto, unfolding(crate::specs::Forms::buffer_forms))]
 fn on_buffers(alloc: Global, first: &[u8], line: &[u8]) -> Result<Command, LineFault>
     ensures { Gives (λ x. x) result (one_of buffer_forms first.now (words_of line.now)) }
@@ -139,7 +152,17 @@ fn on_buffers(alloc: Global, first: &[u8], line: &[u8]) -> Result<Command, LineF
         let (buffer, ()) = Fields::read(alloc, line)?;
         Ok(Command::Show { buffer })
     } else if first == b"bytes".as_slice() {
-        bytes(alloc, line)
+        let (rep, (count, (ty, (buffer, (origin, ()))))) = Fields::read(alloc, line)?;
+        Ok(Command::Bytes {
+            rep,
+            count,
+            ty,
+            buffer,
+            origin,
+        })
+    } else if first == b"elements".as_slice() {
+        let (rep, (bytes, (ty, ()))) = Fields::read(alloc, line)?;
+        Ok(Command::Elements { rep, bytes, ty })
     } else {
         on_trees(alloc, first, line)
     }

@@ -1,15 +1,16 @@
-//! Words that spell a number, or pieces with `@` or `:` between.
+//! Words that spell a number, a name or a representation, or pieces with `@` or `:` between.
 ghost use Rattle.std.specs.Prelude.{◌≡◌, List, ℕ, Option, MatchOption, Some, None};
 ghost use Rattle.dt_script.specs.Array.{order_of};
 ghost use Rattle.dt_script.specs.Name.{name_of};
 ghost use Rattle.dt_script.specs.Number.{int_of, address_of};
-ghost use Rattle.dt_script.specs.Reading.{cut_of, int_block_of, address_block_of, part_of, sub_dim_of, dist_dim_of};
+ghost use Rattle.dt_script.specs.Reading.{cut_of, rep_of, int_block_of, address_block_of, part_of, sub_dim_of, dist_dim_of};
 
 use crate::array::{darg, dist, order};
 use crate::command::NamedPart;
 use crate::name::Name;
 use crate::number::{address, int};
 use dt_form::{AddrBlock, DistDim, IntBlock, Order, SubDim};
+use dt_kinds::Rep;
 
 /// What one word can spell.
 pub(crate) trait Item: Sized {
@@ -40,6 +41,20 @@ impl Item for Name {
 
     fn of_word(word: &[u8]) -> Option<Name> {
         Name::new(word)
+    }
+}
+
+impl Item for Rep {
+    ghost item_of = { rep_of };
+
+    fn of_word(word: &[u8]) -> Option<Rep> {
+        if word == b"native".as_slice() {
+            Some(Rep::Native)
+        } else if word == b"external32".as_slice() {
+            Some(Rep::External32)
+        } else {
+            None
+        }
     }
 }
 

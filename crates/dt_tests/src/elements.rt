@@ -1,13 +1,14 @@
 //! Whether the elements of an operation lie inside a buffer, their size, and their packed bytes.
 
 use crate::defined::made_by;
-use dt_elems::{packed_bytes, packed_size, span_inside};
+use dt_elems::{packed_size, span_inside};
 use dt_kinds::{Kind, NoMemory, Rep};
+use dt_pack::{PACKED_MAX, packed_bytes};
 use dt_type::Datatype;
 use std::alloc::Global;
 use std::test::Fail;
 
-/// The packed bytes. None where an element lies outside.
+/// The packed bytes. None where an element lies outside, or where buffer or packed bytes are above the limit.
 fn packed(
     alloc: Global,
     made: &Datatype,
@@ -16,7 +17,8 @@ fn packed(
     origin: i64,
     buffer: &[u8],
 ) -> Result<Option<Vec<u8>>, NoMemory> {
-    if !span_inside(made, count, origin, buffer.len()) {
+    let many = packed_size(made, rep, count) > PACKED_MAX as u128;
+    if many || buffer.len() > PACKED_MAX || !span_inside(made, count, origin, buffer.len()) {
         return Ok(None);
     }
     Ok(Some(packed_bytes(alloc, made, rep, count, origin, buffer)?))

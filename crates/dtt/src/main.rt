@@ -4,6 +4,8 @@
 mod call;
 #[cfg(test)]
 mod rows;
+#[cfg(test)]
+mod session_rows;
 mod status;
 #[cfg(test)]
 mod tests;

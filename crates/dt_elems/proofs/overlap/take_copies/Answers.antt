@@ -9,7 +9,7 @@ use Rattle.dt_map.specs.Elements.{elements, are_inside}
 use Rattle.dt_map.specs.Typemap.{shift}
 use Rattle.dt_type.specs.Datatype.{typemap_of}
 use Rattle.dt_elems.specs.Taking.{with_elements}
-use Rattle.dt_elems.proofs.Appending.{copy_inside}
+use Rattle.dt_elems.proofs.Among.{copy_inside}
 use Rattle.dt_elems.proofs.Places.{place_of}
 use Rattle.dt_elems.proofs.Taken.{copy_taken, copy_found}
 use Rattle.dt_elems.proofs.overlap.take_copies.Goals as goal

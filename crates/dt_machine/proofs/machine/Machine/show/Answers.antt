@@ -12,4 +12,4 @@ pub returns : goal.returns
 returns c =
     let bytes = c.in-Some.bytes.now in
     told_outcome c.args.self.now (Show c.args.buffer.now) (Shown c.from_vec.result) c.told.result
-    (show_allowed c.args.self.now c.args.buffer.now bytes c.in-Some.ensures) (bytes, c.in-Some.ensures, ap Shown (c.from_vec.ensures ∙ c.in_ok-bytes.ensures.items), refl) refl c.told.ensures
+    (show_allowed c.args.self.now c.args.buffer.now bytes c.in-Some.ensures.0) (bytes, c.in-Some.ensures.0, ap Shown (c.from_vec.ensures ∙ c.in_ok-bytes.ensures.items), refl) refl c.told.ensures

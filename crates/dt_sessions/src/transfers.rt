@@ -1,0 +1,162 @@
+//! The buffers that stand, and the sessions that are open, by name.
+ghost use Rattle.std.specs.Prelude.{◌≡◌, ℕ, List, OnOk, OnErr, MatchOption, None, Some, is_some, length, min};
+ghost use Rattle.std.specs.Option.{IsSomeAnd};
+ghost use Rattle.dt_names.specs.Names.{under, bytes_in};
+ghost use Rattle.dt_sessions.specs.Open.{nothing_stands, packed_in, next_in, opened_at, CanSeek, CanTake, with_buffer, with_opened, with_moved, without_session, IsOver, IsSmall};
+ghost use Rattle.dt_sessions.specs.declared.session.Opened.{Opened as OpenedValue};
+
+use crate::session::{Opened, Session};
+use dt_kinds::NoMemory;
+use dt_names::{Buffer, Buffers};
+use dt_script::Name;
+use std::alloc::Global;
+use std::collections::BTreeMap;
+use std::marker::Model;
+
+/// The buffers that stand, and the sessions that are open over them, each under a name.
+#[derive(Drop)]
+pub struct Transfers {
+    buffers: Buffers,
+    sessions: BTreeMap<Name, Opened>,
+}
+
+impl Model for Transfers {
+    ghost use Rattle.dt_sessions.specs.Open.{Standing, HoldsOpen};
+
+    ghost Value = { Standing };
+
+    ghost view = { λ t. record { buffers = t.buffers; sessions = t.sessions.entries } };
+
+    ghost invariant = { λ t. HoldsOpen t.buffers t.sessions.entries };
+}
+
+impl Transfers {
+    /// No buffers, and no session. It takes no memory.
+    pub fn new(alloc: Global) -> Transfers
+        ensures { result ≡ nothing_stands }
+    {
+        Transfers {
+            buffers: Buffers::new(alloc),
+            sessions: BTreeMap::new(alloc),
+        }
+    }
+
+    /// How many buffers stand.
+    pub fn count_of_buffers(&self) -> usize
+        ensures { result ≡ length self.now.buffers }
+    {
+        self.buffers.len()
+    }
+
+    /// Whether a buffer of this name stands.
+    pub fn has_buffer(&self, name: &Name) -> bool
+        ensures { result ≡ is_some (under name.now self.now.buffers) }
+    {
+        self.buffers.contains(name)
+    }
+
+    /// The bytes of a buffer, where it stands.
+    pub fn buffer(&self, name: &Name) -> Option<&[u8]>
+        ensures { MatchOption result (under name.now self.now.buffers ≡ None) (λ bytes. (under name.now self.now.buffers ≡ Some bytes.now) × IsSmall bytes.now) }
+    {
+        let bytes = self.buffers.get(name)?;
+        Some(bytes)
+    }
+
+    /// The bytes of all buffers together, as far as 64 bits hold them.
+    pub fn bytes_held(&self) -> u64
+        ensures { result ≡ min (bytes_in self.now.buffers) 18446744073709551615 }
+    {
+        self.buffers.bytes_held()
+    }
+
+    /// Lets a new name stand for a buffer. Where memory runs out nothing is changed.
+    pub fn add_buffer(&mut self, name: Name, buffer: Buffer) -> Result<(), NoMemory>
+        requires new { under name self.old.buffers ≡ None }
+        requires small { IsSmall buffer }
+        ensures ok { OnOk result (self.new ≡ with_buffer self.old name buffer) }
+        ensures err { OnErr result (self.new ≡ self.old) }
+    {
+        self.buffers.add(name, buffer)?;
+        Ok(())
+    }
+
+    /// How many sessions are open.
+    pub fn count_of_sessions(&self) -> usize
+        ensures { result ≡ length self.now.sessions }
+    {
+        self.sessions.len()
+    }
+
+    /// Whether a session of this name is open.
+    pub fn is_open(&self, name: &Name) -> bool
+        ensures { result ≡ is_some (under name.now self.now.sessions) }
+    {
+        self.sessions.contains_key(name)
+    }
+
+    /// The session of a name.
+    pub fn session(&self, name: &Name) -> Option<&Session>
+        ensures { MatchOption result (under name.now self.now.sessions ≡ None) (λ s. IsSomeAnd (under name.now self.now.sessions) (λ opened. opened.session ≡ s.now)) }
+    {
+        match self.sessions.get(name) {
+            Some(opened) => Some(&opened.session),
+            None => None,
+        }
+    }
+
+    /// The packed bytes of all open sessions together, as far as 64 bits hold them.
+    pub fn packed_bytes(&self) -> u64
+        ensures { result ≡ min (packed_in self.now.sessions) 18446744073709551615 }
+    {
+        let mut all: u64 = 0;
+        'sessions: for (_name, opened) in &self.sessions {
+            all = all.saturating_add(opened.session.total());
+        }
+        all
+    }
+
+    /// Lets a name stand for a session over a buffer. Where memory runs out nothing is changed.
+    pub fn open(&mut self, name: Name, opened: Opened) -> Result<(), NoMemory>
+        requires { IsOver self.old.buffers opened }
+        ensures ok { OnOk result (self.new ≡ with_opened self.old name opened) }
+        ensures err { OnErr result (self.new ≡ self.old) }
+    {
+        self.sessions.insert(name, opened)?;
+        Ok(())
+    }
+
+    /// Goes to a packed byte of a session. It takes no memory.
+    pub fn seek(&mut self, name: &Name, byte: u64)
+        requires { IsSomeAnd (under name.now self.old.sessions) (λ opened. CanSeek opened.session byte) }
+        ensures { (opened : OpenedValue) → under name.now self.old.sessions ≡ Some opened → self.new ≡ with_moved self.old name.now (opened_at opened byte) }
+    {
+        let Some(opened) = self.sessions.get_mut(name) else {
+            unreachable!()
+        };
+        opened.session.seek(byte);
+    }
+
+    /// Fills `out` with the next packed bytes of a session, of its buffer as it is now; the session stays where it is. It takes no
+    /// memory.
+    pub fn peek(&mut self, name: &Name, out: &mut [u8])
+        requires { IsSomeAnd (under name.now self.old.sessions) (λ opened. CanTake opened.session (length out.old)) }
+        ensures same { self.new ≡ self.old }
+        ensures bytes { (opened : OpenedValue) → under name.now self.old.sessions ≡ Some opened → (bytes : List ℕ) × (under opened.buffer self.old.buffers ≡ Some bytes) × (out.new ≡ next_in opened.session bytes (length out.old)) }
+    {
+        let Some(opened) = self.sessions.get_mut(name) else {
+            unreachable!()
+        };
+        let Some(buffer) = self.buffers.get(&opened.buffer) else {
+            unreachable!()
+        };
+        opened.session.peek(buffer, out);
+    }
+
+    /// Takes a session away.
+    pub fn close(&mut self, name: &Name)
+        ensures { self.new ≡ without_session self.old name.now }
+    {
+        self.sessions.remove(name);
+    }
+}
