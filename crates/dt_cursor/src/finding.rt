@@ -62,8 +62,8 @@ pub(crate) fn descend<C: Code>(
 }
 
 /// Finds a packed byte of the elements for which a program stands: the frames then stand at the element that holds it, or at the end
-/// where it is the total. The answer is how many of the element's bytes lie before. Each instruction is read once at most. It takes no
-/// memory.
+/// where it is the total. The answer is how many of the element's bytes lie before. No more instructions are read than there are. It
+/// takes no memory.
 pub fn find<C: Code>(code: &mut C, rep: Rep, byte: u64, frames: &mut Frames) -> u8
     requires { (es : List entry.Entry) × StandsFor (C.program code.old) es × (byte ≤ total rep es) }
     ensures found { (es : List entry.Entry) → StandsFor (C.program code.old) es → IsFound (C.program code.old) rep es byte frames.new result }

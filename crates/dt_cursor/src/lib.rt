@@ -1,4 +1,4 @@
-//! Any byte of a loop program, found by few reads: frames stand at the element that holds it.
+//! Walks through the packed bytes of a loop program's elements, from any byte on and without memory: runs and rows that come next.
 #![tactic(auto)]
 
 mod climb;

@@ -172,7 +172,8 @@ fn scatter_external(rows: &Rows, origin: i64, packed: &[u8], buffer: &mut [u8])
 }
 
 /// Sets the elements of rows, which lie in the buffer from an origin on, to what packed bytes stand for (MPI 4.1, sections 5.2 and
-/// 14.5.2). No other byte of the buffer changes. The bytes of the run are all those of its elements. It takes no memory.
+/// 14.5.2). No other byte of the buffer changes. The bytes of the run are all those of its elements; buffer and packed bytes are fewer
+/// than 2^63, as all that memory holds. It takes no memory.
 pub fn scatter(rep: Rep, rows: &Rows, origin: i64, packed: &[u8], buffer: &mut [u8])
     requires shape { AreRows rep rows.now }
     requires whole { IsWhole rep rows.now.run }

@@ -1,5 +1,5 @@
-//! The tests of what moves elements: their images, whether they overlap, and counts of received bytes. Their expected values come from
-//! MPI 4.1 and from this project's documents, never from a run of the code.
+//! The tests of what moves elements: images, overlap, counts of received bytes, loop programs, cursors, and sessions. Their expected
+//! values come from MPI 4.1 and from this project's documents, or from a plain walk from element to element.
 #![tactic(auto)]
 
 #[cfg(test)]

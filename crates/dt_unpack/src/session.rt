@@ -84,9 +84,9 @@ fn first_cursor(
 
 impl UnpackSession {
     /// Opens a session over so many copies of a datatype, the first of which begins at the origin in a buffer of `buf_len` bytes.
-    /// `Outside` exactly where some byte of an element lies outside the buffer; then `Overlap` exactly where two elements have a
-    /// common byte (MPI 4.1, section 5.1.11); `NoMemory` where memory ran out. From then on the session needs neither the datatype nor
-    /// memory.
+    /// `Outside` exactly where some byte of an element lies outside the buffer; then `Overlap` where two elements have a common byte, as
+    /// none may that are received (MPI 4.1, section 5.1.11), and nowhere else; `NoMemory` where memory ran out, be it before overlap is
+    /// known. From then on the session needs neither the datatype nor memory.
     pub fn begin(
         alloc: Global,
         ty: &Datatype,
