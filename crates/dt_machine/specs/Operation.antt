@@ -1,5 +1,5 @@
 -- What keeps the packed bytes of an operation from being printed, by its type and the length of its buffer. No public clause cites this module.
-use Rattle.std.specs.Prelude.{◌≡◌, ℕ, ◌<◌, ◌≤◌, ◌||◌, false, length, Bool, List, ℤ, pos, nat_abs, int_lt, IsTrue, IsFalse, [], ◌∷◌}
+use Rattle.std.specs.Prelude.{◌≡◌, ℕ, ◌<◌, ◌≤◌, false, length, List, ℤ, pos, nat_abs, int_lt, IsTrue, IsFalse, [], ◌∷◌}
 use Rattle.dt_kinds.specs.declared.kind.Rep.{Rep}
 use Rattle.dt_map.specs.Elements.{elements, are_inside}
 use Rattle.dt_map.specs.Packed.{total}

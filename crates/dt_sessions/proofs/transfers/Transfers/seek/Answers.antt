@@ -4,7 +4,7 @@ use Rattle.std.specs.Cmp.Lexicographic.{slice_cmp}
 use Rattle.std.specs.Ordering.{nat_cmp}
 use Rattle.dt_names.specs.Names.{under}
 use Rattle.dt_sessions.specs.declared.session.Opened.{Opened}
-use Rattle.dt_sessions.specs.Open.{Standing, IsOver, CanSeek, opened_at}
+use Rattle.dt_sessions.specs.Open.{Standing, CanSeek}
 use Rattle.dt_sessions.proofs.OpenLemmas.{and_found, over_found, over_at, holds_moved}
 use Rattle.dt_sessions.proofs.transfers.Transfers.seek.Goals as goal
 
