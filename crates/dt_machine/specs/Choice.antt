@@ -41,6 +41,6 @@ text_told (Some tree) = spelling.text_of tree
 abbrev pub tells : Weights → ℤ → Option Tree → Reply
 tells w base tree = Least (cost_told w tree) base (text_told tree)
 
--- entries too far apart for a datatype of their tree: the true extent is above 2^59, or the upper bound that they have without marks is above 2^60
+-- entries too far apart, or too far on, for a datatype of their tree: the true extent is above 2^59, or the upper bound that they have without marks is above 2^60
 abbrev pub AreTooWide : List Entry → Type 0
 AreTooWide entries = (pos (2 ^ 59) <ℤ (true_ub entries -ℤ true_lb entries)) ⊎ (pos (2 ^ 60) <ℤ natural_ub entries)

@@ -40,7 +40,7 @@ sought (Normalise ty) = Some ty
 sought (Rebuild name ty) = Some ty
 sought command = None
 
--- a line that tells a least tree of a type that has entries, so that one of several may be chosen
+-- a line that asks for a least tree of a type that has entries, so that one of several may be chosen
 abbrev pub Chooses : State → List ℕ → Type 0
 Chooses s line =
     (command : Command) × IsLine line (Does command)

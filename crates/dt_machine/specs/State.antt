@@ -13,8 +13,8 @@ use Rattle.dt_sessions.specs.Open.{packed_in, opened_at}
 use Rattle.dt_tree.specs.Weights.{Weights, default_weights}
 use Rattle.dt_machine.specs.declared.state.Totals.{Totals}
 
--- the types with their flags and the buffers that stand and the sessions that are open, by name and in the order of the names; how many types were made, freed
--- ones too; what the parts of trees cost; and what was counted
+-- the types that stand, with their flags, the buffers, and the sessions that are open, each by name and in the order of the names; how
+-- many types were made, freed ones too; what the parts of trees cost; and what was counted
 pub record State : Type 0 where
   pub types : List (List ℕ × Kept)
   pub made : ℕ

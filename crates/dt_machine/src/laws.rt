@@ -11,12 +11,13 @@ pub fn allowed_is_clear()
     ensures { AllowedIsClear }
 {}
 
-/// A line has one reply and leads to one state, where it doesn't tell a least tree of a type that has entries.
+/// A line has one reply and leads to one state, where it doesn't ask for a least tree of a type that has entries.
 pub fn step_is_function()
     ensures { StepIsFunction }
 {}
 
-/// An input of which no line tells a least tree has one text that answers it, and one status.
+/// An input none of whose lines can, in any state, ask for a least tree of a type that has entries has one text that answers it, and
+/// one status.
 pub fn answers_are_one()
     ensures { AnswersAreOne }
 {}

@@ -57,7 +57,7 @@ fn weights_of(
     Weights::new(leaf, vector, index, place, group, part)
 }
 
-/// Whether the entries of a type lie too far apart for a datatype of their tree.
+/// Whether the entries of a type lie too far apart, or end too far on, for a datatype of their tree.
 fn is_too_wide(ty: &Datatype) -> bool
     ensures wide { Decides result (AreTooWide (entries_of ty.now)) }
     ensures in_range { IsInRange (typemap_of ty.now) }

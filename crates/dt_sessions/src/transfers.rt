@@ -116,7 +116,7 @@ impl Transfers {
         all
     }
 
-    /// Lets a name stand for a session over a buffer. Where memory runs out nothing is changed.
+    /// Lets a name stand for a session over a buffer, in place of one that it stood for. Where memory runs out nothing is changed.
     pub fn open(&mut self, name: Name, opened: Opened) -> Result<(), NoMemory>
         requires { IsOver self.old.buffers opened }
         ensures ok { OnOk result (self.new ≡ with_opened self.old name opened) }

@@ -290,6 +290,34 @@ const TREES: [&[u8]; 5] = [
     b"rebuild MPI_n = MPI_INT",
 ];
 
+/// Lines on sessions and counts: a word too few or too many, another representation, and a number that is none or out of range.
+const OTHER_SESSIONS: [&[u8]; 12] = [
+    b"bytes external 1 t b 0",
+    b"elements native 8",
+    b"elements 8 t",
+    b"elements native 9223372036854775808 t",
+    b"pack p native 1 t b",
+    b"pack native 1 t b 0",
+    b"pack p External32 1 t b 0",
+    b"take p",
+    b"take p 2147483648",
+    b"seek p x",
+    b"close",
+    b"close p q",
+];
+
+/// The same, spelled as they are read.
+const SESSIONS: [&[u8]; 8] = [
+    b"bytes external32 1 t b 0",
+    b"elements native -1 MPI_INT",
+    b"elements external32 9223372036854775807 t",
+    b"pack p native 2147483647 t b -9223372036854775808",
+    b"pack MPI_p external32 -1 MPI_INT b 0",
+    b"take p -2147483648",
+    b"seek p 9223372036854775807",
+    b"close p",
+];
+
 /// Lines with the least and the greatest numbers and the longest names, spelled as they are read.
 const AS_THEY_STAND: [&[u8]; 23] = [
     b"info a",
@@ -447,6 +475,7 @@ fn lines_in_no_form(rt: HostRuntime) -> Result<(), Fail> {
         OTHER_PARTS.as_slice(),
         OTHER_HANDLES.as_slice(),
         OTHER_ARRAYS.as_slice(),
+        OTHER_SESSIONS.as_slice(),
         OTHER_TREES.as_slice(),
     ] {
         let other = other_line(rt.alloc(), lines, b"syntax")?;
@@ -471,6 +500,7 @@ fn lines_with_commands(rt: HostRuntime) -> Result<(), Fail> {
         AS_THEY_STAND.as_slice(),
         DEFINITIONS.as_slice(),
         ARRAYS.as_slice(),
+        SESSIONS.as_slice(),
         TREES.as_slice(),
     ] {
         let other = respelt(rt.alloc(), lines)?;

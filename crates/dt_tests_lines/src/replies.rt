@@ -9,11 +9,12 @@ use std::alloc::Global;
 use std::test::Fail;
 
 /// Why a command is refused, and the line that says so.
-const REFUSALS: [(Refusal, &str); 15] = [
+const REFUSALS: [(Refusal, &str); 19] = [
     (Refusal::Syntax, "refused 1 syntax\n"),
     (Refusal::UnknownName, "refused 2 unknown name\n"),
     (Refusal::NameTaken, "refused 3 name taken\n"),
     (Refusal::UnsupportedKind, "refused 4 unsupported kind\n"),
+    (Refusal::NotCommitted, "refused 5 not committed\n"),
     (Refusal::BasicType, "refused 6 basic type\n"),
     (Refusal::NamedType, "refused 7 named type\n"),
     (Refusal::NoSuchChild, "refused 8 no such child\n"),
@@ -24,7 +25,10 @@ const REFUSALS: [(Refusal, &str); 15] = [
     (Refusal::TooManyNames, "refused 13 too many names\n"),
     (Refusal::TooManyEntries, "refused 14 too many entries\n"),
     (Refusal::Outside, "refused 15 outside\n"),
+    (Refusal::Overlap, "refused 16 overlap\n"),
     (Refusal::TooLarge, "refused 17 too large\n"),
+    (Refusal::WrongDirection, "refused 18 wrong direction\n"),
+    (Refusal::Truncated, "refused 19 truncated\n"),
 ];
 
 /// The first line that isn't replied.

@@ -46,12 +46,56 @@ fn push_command(alloc: Global, out: &mut Vec<u8>, command: &Command) -> Result<(
             origin,
         } => {
             out.extend_from_slice(b"bytes")?;
-            push_word(out, representation(*rep))?;
-            push_number(out, i64::from(*count))?;
-            push_word(out, ty.as_bytes())?;
-            push_word(out, buffer.as_bytes())?;
-            push_number(out, *origin)
+            push_operation(out, *rep, *count, ty, buffer, *origin)
         }
+        Command::Elements { rep, bytes, ty } => {
+            out.extend_from_slice(b"elements")?;
+            push_word(out, representation(*rep))?;
+            push_number(out, *bytes)?;
+            push_word(out, ty.as_bytes())
+        }
+        Command::Pack {
+            name,
+            rep,
+            count,
+            ty,
+            buffer,
+            origin,
+        } => {
+            push_query(out, b"pack", name)?;
+            push_operation(out, *rep, *count, ty, buffer, *origin)
+        }
+        _ => push_later_command(out, command),
+    }
+}
+
+fn push_operation(
+    out: &mut Vec<u8>,
+    rep: Rep,
+    count: i32,
+    ty: &Name,
+    buffer: &Name,
+    origin: i64,
+) -> Result<(), AllocError> {
+    push_word(out, representation(rep))?;
+    push_number(out, i64::from(count))?;
+    push_word(out, ty.as_bytes())?;
+    push_word(out, buffer.as_bytes())?;
+    push_number(out, origin)
+}
+
+/// The commands on open sessions and on trees; nothing for the others.
+fn push_later_command(out: &mut Vec<u8>, command: &Command) -> Result<(), AllocError> {
+    match command {
+        Command::Take { session, len } => {
+            push_query(out, b"take", session)?;
+            push_number(out, i64::from(*len))
+        }
+        Command::Seek { session, byte } => {
+            push_query(out, b"seek", session)?;
+            push_number(out, *byte)
+        }
+        Command::Close { session } => push_query(out, b"close", session),
         Command::Weights {
             leaf,
             vector,
@@ -65,6 +109,7 @@ fn push_command(alloc: Global, out: &mut Vec<u8>, command: &Command) -> Result<(
             push_query(out, b"rebuild", name)?;
             push_query(out, b" =", ty)
         }
+        _ => Ok(()),
     }
 }
 
