@@ -1,5 +1,7 @@
 pub mod Definitions
 pub mod Fills
+pub mod JoinedGives
+pub mod Joining
 pub mod LeastTrees
 pub mod Lines
 pub mod Moving
@@ -8,8 +10,11 @@ pub mod Once
 pub mod Opening
 pub mod Operations
 pub mod Outcomes
+pub mod Pieces
 pub mod Rebuilding
 pub mod Rows
+pub mod Sound
 pub mod Telling
+pub mod Turning
 pub mod TypeWords
 pub mod Widths

@@ -8,11 +8,11 @@ use Rattle.dt_map.specs.Counts.{received_elements, received_copies}
 use Rattle.dt_map.specs.Packed.{packed}
 use Rattle.dt_reply.specs.declared.refusal.Refusal.{Refusal}
 use Rattle.dt_reply.specs.declared.reply.Reply.{Reply}
-use Rattle.dt_reply.specs.declared.reply.Reply.TheVariants.{Done, Packed, Shown, Told, Listed, Described, Contained, Counted, Opened, Closed, Refused}
+use Rattle.dt_reply.specs.declared.reply.Reply.TheVariants.{Done, Packed, Shown, Told, Listed, Described, Contained, Counted, Opened, Given, Closed, Refused}
 use Rattle.dt_reply.specs.Refusal.{number_of}
 use Rattle.dt_reply.proofs.Numbers.{one_refusal}
 use Rattle.dt_script.specs.declared.command.Command.{Command}
-use Rattle.dt_script.specs.declared.command.Command.TheVariants.{Define, Child, Commit, Free, Info, Map, Envelope, Contents, Buffer, Show, Bytes, Elements, Pack, Take, Seek, Close, Weights, Normalise, Rebuild}
+use Rattle.dt_script.specs.declared.command.Command.TheVariants.{Define, Child, Commit, Free, Info, Map, Envelope, Contents, Buffer, Show, Bytes, Elements, Pack, Take, Seek, Close, Unpack, Give, Weights, Normalise, Rebuild}
 use Rattle.dt_script.specs.Line.{Meaning, Blank, Fault, Does, IsLine}
 use Rattle.dt_script.specs.Lines.{script_lines}
 use Rattle.dt_script.specs.Name.{begins_with_mpi}
@@ -33,8 +33,9 @@ use Rattle.dt_machine.specs.Refusal.{elements_of, IsRefusedBy}
 use Rattle.dt_machine.specs.State.{State, first_state, type_of, buffer_of, session_of, with_session, with_moved, without_session, with_taken, with_type, with_committed, with_cost, with_count}
 use Rattle.dt_pack.specs.Session as pack
 use Rattle.dt_sessions.specs.declared.session.Opened as opened
-use Rattle.dt_sessions.specs.Open.{total_in, passed_in, next_in, packing}
-use Rattle.dt_machine.specs.Step.{begun, taken_by, Performs, Obeys, Meets}
+use Rattle.dt_sessions.specs.Open.{total_in, passed_in, next_in, receipt_in, packing, unpacking}
+use Rattle.dt_unpack.specs.Session as unpack
+use Rattle.dt_machine.specs.Step.{begun, receiving, taken_by, with_piece, Performs, Obeys, Meets}
 use Rattle.dt_machine.proofs.Rows.{some_and}
 use Rattle.dt_machine.proofs.Telling.{no_choice}
 
@@ -124,6 +125,12 @@ performs_one (Seek session byte) s t u reply other none p q =
 performs_one (Close session) s t u reply other none p q =
     by_one (session_of s session) (λ (o : opened.Opened). Closed (passed_in o.session) (total_in o.session)) (λ _. with_count (without_session s session)) reply other t
     u p q
+performs_one (Unpack name rep count ty buffer origin) s t u reply other none p q =
+    by_two (type_of s ty) (λ _. buffer_of s buffer) (λ kept bytes. Opened (unpack.total_of (receiving kept rep count origin (length bytes))))
+    (λ kept bytes. with_count (with_session s name (unpacking buffer (receiving kept rep count origin (length bytes))))) reply other t u p q
+performs_one (Give session piece) s t u reply other none p q =
+    by_two (session_of s session) (λ (o : opened.Opened). buffer_of s o.buffer) (λ o _. Given (receipt_in o.session piece))
+    (λ o bytes. with_count (with_piece s session o bytes piece)) reply other t u p q
 performs_one (Weights leaf vector index place group part) s t u reply other none p q = (p.0 ∙ sym q.0, p.1 ∙ sym q.1)
 performs_one (Normalise ty) s t u reply other none (kept, base, tree, a, b, c, d) (kept2, base2, tree2, e, f, g, h) =
     let few = no_choice s.weights (entries_of kept.ty) base tree (λ some. none (some_and (type_of s ty) HasEntries kept a some)) b in

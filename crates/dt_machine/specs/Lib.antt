@@ -5,6 +5,7 @@ pub mod Laws
 pub mod Made
 pub mod Operation
 pub mod Outcome
+pub mod Pieces
 pub mod Refusal
 pub mod Row
 pub mod State

@@ -4,6 +4,7 @@ use Rattle.std.specs.Prelude.{◌≡◌, true, false, IsTrue, List, ℕ, ◌<◌
 use Rattle.dt_reply.specs.declared.refusal.Refusal.TheVariants as refusal
 use Rattle.dt_reply.specs.Reply.{is_accepted}
 use Rattle.dt_script.specs.declared.command.Command.{Command}
+use Rattle.dt_script.specs.declared.command.Command.TheVariants.{Give}
 use Rattle.dt_type.specs.Basic.{is_basic}
 use Rattle.dt_type.specs.declared.fault.CtorFault.{CtorFault}
 use Rattle.dt_type.specs.declared.fault.CtorFault.TheVariants as fault
@@ -19,6 +20,10 @@ use Rattle.dt_names.specs.Names.{under}
 use Rattle.dt_sessions.specs.declared.session.Opened.{Opened}
 use Rattle.dt_sessions.specs.Open.{CanSeek, IsOver, IsSmall}
 use Rattle.dt_machine.specs.Step.{Performs}
+
+-- a command that gives a piece to a session
+abbrev pub IsGift : Command → Type 0
+IsGift command = (session : List ℕ) × (piece : List ℕ) × (command ≡ Give session piece)
 
 -- where a name stands for a type, the state with this type committed
 abbrev pub with_commit : State → List ℕ → Option Kept → State

@@ -1,16 +1,16 @@
 -- When a command is refused, and by which number.
-use Rattle.std.specs.Prelude.{◌≡◌, ℕ, ◌+◌, ◌≤◌, ◌<◌, ℤ, pos, nat_abs, int_lt, ◌<ℤ◌, Bool, ◌||◌, IsTrue, IsFalse, is_none, List, [], ◌∷◌, length, None, false, ◌⊎◌}
+use Rattle.std.specs.Prelude.{◌≡◌, ℕ, ◌+◌, ◌≤◌, ◌<◌, ℤ, pos, nat_abs, int_lt, ◌<ℤ◌, Bool, ◌||◌, IsTrue, IsFalse, is_none, List, [], ◌∷◌, length, None, true, false, ◌⊎◌}
 use Rattle.std.specs.Option.{IsSomeAnd}
 use Rattle.dt_kinds.specs.Name.{is_left_out}
 use Rattle.dt_kinds.specs.declared.kind.Rep.{Rep}
 use Rattle.dt_map.specs.declared.entry.Entry.{Entry}
-use Rattle.dt_map.specs.Elements.{elements, are_inside}
+use Rattle.dt_map.specs.Elements.{elements, are_inside, Overlaps}
 use Rattle.dt_map.specs.Packed.{total}
 use Rattle.dt_reply.specs.declared.refusal.Refusal.{Refusal}
-use Rattle.dt_reply.specs.declared.refusal.Refusal.TheVariants.{UnknownName, NameTaken, UnsupportedKind, NotCommitted, BasicType, NamedType, NoSuchChild, BadArgument, Overflow, TooDeep, TooHeavy, TooManyNames, TooManyEntries, Outside, TooLarge}
+use Rattle.dt_reply.specs.declared.refusal.Refusal.TheVariants.{UnknownName, NameTaken, UnsupportedKind, NotCommitted, BasicType, NamedType, NoSuchChild, BadArgument, Overflow, TooDeep, TooHeavy, TooManyNames, TooManyEntries, Outside, Overlap, TooLarge, WrongDirection, Truncated}
 use Rattle.dt_reply.specs.Refusal.{number_of}
 use Rattle.dt_script.specs.declared.command.Command.{Command}
-use Rattle.dt_script.specs.declared.command.Command.TheVariants.{Define, Child, Commit, Free, Info, Map, Envelope, Contents, Buffer, Show, Bytes, Elements, Pack, Take, Seek, Close, Weights, Normalise, Rebuild}
+use Rattle.dt_script.specs.declared.command.Command.TheVariants.{Define, Child, Commit, Free, Info, Map, Envelope, Contents, Buffer, Show, Bytes, Elements, Pack, Take, Seek, Close, Unpack, Give, Weights, Normalise, Rebuild}
 use Rattle.dt_script.specs.declared.command.Fill.{Fill}
 use Rattle.dt_script.specs.declared.command.Fill.TheVariants.{Zero, Count, Hex}
 use Rattle.dt_script.specs.Olds.{any_old}
@@ -21,7 +21,7 @@ use Rattle.dt_type.specs.Datatype.{typemap_of, entries_of, form_of}
 use Rattle.dt_form.specs.Form.{olds_of}
 use Rattle.dt_names.specs.declared.kept.Kept.{Kept}
 use Rattle.dt_sessions.specs.declared.session.Opened.{Opened}
-use Rattle.dt_sessions.specs.Open.{total_in}
+use Rattle.dt_sessions.specs.Open.{is_packing, total_in, rest_in}
 use Rattle.dt_machine.specs.declared.limits.TheConstants.{MOST_TYPES, MOST_MADE, MOST_BUFFERS, LARGEST_BUFFER, MOST_BYTES, MOST_ENTRIES, MOST_SOUGHT, MOST_PACKED, MOST_SESSIONS, MOST_OPEN}
 use Rattle.dt_machine.specs.Choice.{AreWeights, AreTooWide}
 use Rattle.dt_machine.specs.Made.{IsFaultIn}
@@ -55,6 +55,17 @@ IsTooMuch s rep count origin kept = MOST_OPEN < packed_open s + total rep (eleme
 -- a packed byte that a session hasn't
 abbrev pub IsBeyond : ℤ → Opened → Type 0
 IsBeyond byte opened = (byte <ℤ pos 0) ⊎ (pos (total_in opened.session) <ℤ byte)
+
+-- a session to which packed bytes are given, where they would be taken; one from which they are taken, where they would be given; and
+-- more bytes than are still to come
+abbrev pub IsReceiving : Opened → Type 0
+IsReceiving opened = is_packing opened.session ≡ false
+
+abbrev pub IsSending : Opened → Type 0
+IsSending opened = is_packing opened.session ≡ true
+
+abbrev pub IsTruncated : List ℕ → Opened → Type 0
+IsTruncated piece opened = rest_in opened.session < length piece
 
 -- no more types may stand, or be made
 abbrev pub NoMoreTypes : State → Type 0
@@ -123,9 +134,33 @@ conditions s (Pack name rep count ty buffer origin) =
     ∷ Outside when IsOutside s ty buffer count origin
     ∷ TooLarge when IsSomeAnd (type_of s ty) (IsTooMuch s rep count origin)
     ∷ []
-conditions s (Take session len) = UnknownName when IsTrue (is_none (session_of s session)) ∷ BadArgument when IsTrue (int_lt len (pos 0)) ∷ []
-conditions s (Seek session byte) = UnknownName when IsTrue (is_none (session_of s session)) ∷ BadArgument when IsSomeAnd (session_of s session) (IsBeyond byte) ∷ []
+conditions s (Take session len) =
+    UnknownName when IsTrue (is_none (session_of s session))
+    ∷ BadArgument when IsTrue (int_lt len (pos 0))
+    ∷ WrongDirection when IsSomeAnd (session_of s session) IsReceiving
+    ∷ []
+conditions s (Seek session byte) =
+    UnknownName when IsTrue (is_none (session_of s session))
+    ∷ BadArgument when IsSomeAnd (session_of s session) (IsBeyond byte)
+    ∷ WrongDirection when IsSomeAnd (session_of s session) IsReceiving
+    ∷ []
 conditions s (Close session) = UnknownName when IsTrue (is_none (session_of s session)) ∷ []
+conditions s (Unpack name rep count ty buffer origin) =
+    UnknownName when IsTrue (is_unknown s ty || is_none (buffer_of s buffer))
+    ∷ NameTaken when IsTrue (is_session_taken s name)
+    ∷ UnsupportedKind when IsTrue (is_left_out ty)
+    ∷ NotCommitted when IsSomeAnd (type_of s ty) (λ kept. kept.committed ≡ false)
+    ∷ BadArgument when IsTrue (int_lt count (pos 0))
+    ∷ TooManyNames when (MOST_SESSIONS ≤ length s.sessions)
+    ∷ Outside when IsOutside s ty buffer count origin
+    ∷ Overlap when IsSomeAnd (type_of s ty) (λ kept. Overlaps (elements_of kept count origin))
+    ∷ TooLarge when IsSomeAnd (type_of s ty) (IsTooMuch s rep count origin)
+    ∷ []
+conditions s (Give session piece) =
+    UnknownName when IsTrue (is_none (session_of s session))
+    ∷ WrongDirection when IsSomeAnd (session_of s session) IsSending
+    ∷ Truncated when IsSomeAnd (session_of s session) (IsTruncated piece)
+    ∷ []
 conditions s (Weights leaf vector index place group part) = BadArgument when (¬ AreWeights leaf vector index place group part) ∷ []
 conditions s (Normalise ty) =
     type_row s ty (TooManyEntries when IsSomeAnd (type_of s ty) (λ kept. MOST_SOUGHT < length (entries_of kept.ty)) ∷ [])

@@ -9,7 +9,7 @@ use Rattle.dt_type.specs.declared.datatype.Seen.{Seen}
 use Rattle.dt_names.specs.declared.kept.Kept.{Kept}
 use Rattle.dt_names.specs.Names.{under, type_in, is_basic_in, is_unknown_in, is_taken_in, bytes_in}
 use Rattle.dt_sessions.specs.declared.session.Opened.{Opened}
-use Rattle.dt_sessions.specs.Open.{packed_in, opened_at}
+use Rattle.dt_sessions.specs.Open.{packed_in, opened_at, opened_given, buffer_in}
 use Rattle.dt_tree.specs.Weights.{Weights, default_weights}
 use Rattle.dt_machine.specs.declared.state.Totals.{Totals}
 
@@ -92,12 +92,25 @@ with_session s name opened = record s { sessions = insert_entry (slice_cmp nat_c
 abbrev pub with_moved : State → List ℕ → Opened → ℕ → State
 with_moved s name opened byte = record s { sessions = set_value (is_at (slice_cmp nat_cmp name)) s.sessions (opened_at opened byte) }
 
+-- the state where a piece was given to the session of a name, whose buffer had these bytes
+abbrev pub with_given : State → List ℕ → Opened → List ℕ → List ℕ → State
+with_given s name opened bytes piece = record s {
+  buffers = set_value (is_at (slice_cmp nat_cmp opened.buffer)) s.buffers (buffer_in opened.session bytes piece);
+  sessions = set_value (is_at (slice_cmp nat_cmp name)) s.sessions (opened_given opened piece);
+}
+
 abbrev pub without_session : State → List ℕ → State
 without_session s name = record s { sessions = remove_entry (is_at (slice_cmp nat_cmp name)) s.sessions }
 
 -- so many packed bytes more were taken
 abbrev pub with_taken : State → ℕ → State
 with_taken s n = record s { totals = record s.totals { taken = min (s.totals.taken + n) (2 ^ 64 - 1) } }
+
+-- so many packed bytes more were given, and so many elements more were completed
+abbrev pub with_received : State → ℕ → ℕ → State
+with_received s n elements = record s {
+  totals = record s.totals { given = min (s.totals.given + n) (2 ^ 64 - 1); elements = min (s.totals.elements + elements) (2 ^ 64 - 1) };
+}
 
 abbrev pub with_weights : State → Weights → State
 with_weights s w = record s { weights = w }

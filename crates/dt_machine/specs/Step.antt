@@ -7,9 +7,9 @@ use Rattle.dt_map.specs.Packed.{packed}
 use Rattle.dt_reply.specs.declared.refusal.Refusal.{Refusal}
 use Rattle.dt_reply.specs.declared.refusal.Refusal.TheVariants.{Syntax}
 use Rattle.dt_reply.specs.declared.reply.Reply.{Reply}
-use Rattle.dt_reply.specs.declared.reply.Reply.TheVariants.{Silent, Done, Packed, Shown, Told, Listed, Described, Contained, Counted, Opened, Closed, Refused}
+use Rattle.dt_reply.specs.declared.reply.Reply.TheVariants.{Silent, Done, Packed, Shown, Told, Listed, Described, Contained, Counted, Opened, Given, Closed, Refused}
 use Rattle.dt_script.specs.declared.command.Command.{Command}
-use Rattle.dt_script.specs.declared.command.Command.TheVariants.{Define, Child, Commit, Free, Info, Map, Envelope, Contents, Buffer, Show, Bytes, Elements, Pack, Take, Seek, Close, Weights, Normalise, Rebuild}
+use Rattle.dt_script.specs.declared.command.Command.TheVariants.{Define, Child, Commit, Free, Info, Map, Envelope, Contents, Buffer, Show, Bytes, Elements, Pack, Take, Seek, Close, Unpack, Give, Weights, Normalise, Rebuild}
 use Rattle.dt_script.specs.Name.{begins_with_mpi}
 use Rattle.dt_script.specs.Line.{Meaning, Blank, Fault, Does, IsLine}
 use Rattle.dt_type.specs.declared.datatype.Seen.{Seen}
@@ -24,12 +24,13 @@ use Rattle.dt_rebuild.specs.Built.{built}
 use Rattle.dt_tree.specs.Tree.{Tree}
 use Rattle.dt_names.specs.declared.kept.Kept.{Kept}
 use Rattle.dt_sessions.specs.declared.session.Opened as opened
-use Rattle.dt_sessions.specs.Open.{total_in, passed_in, rest_in, next_in, packing}
+use Rattle.dt_sessions.specs.Open.{total_in, passed_in, rest_in, next_in, receipt_in, packing, unpacking}
 use Rattle.dt_machine.specs.Choice.{weights_by, MayBeTold, cost_told, tells}
 use Rattle.dt_machine.specs.Made.{form_in, is_committed_by}
 use Rattle.dt_machine.specs.Refusal.{elements_of, IsRefusedBy, IsAllowed}
-use Rattle.dt_machine.specs.State.{State, type_of, buffer_of, session_of, with_session, with_moved, without_session, with_taken, with_type, with_committed, without_type, with_buffer, with_weights, with_cost, with_count}
+use Rattle.dt_machine.specs.State.{State, type_of, buffer_of, session_of, with_session, with_moved, with_given, without_session, with_taken, with_received, with_type, with_committed, without_type, with_buffer, with_weights, with_cost, with_count}
 use Rattle.dt_names.specs.Names.{bytes_of}
+use Rattle.dt_unpack.specs.Session as unpack
 
 -- a pack session over a type and a buffer of so many bytes, as it is opened
 abbrev pub begun : Kept → Rep → ℤ → ℤ → ℕ → pack.Session
@@ -38,6 +39,14 @@ begun kept rep count origin len = pack.opened (typemap_of kept.ty) (nat_abs coun
 -- how many packed bytes are taken: as many as asked for, or as are still to come
 abbrev pub taken_by : opened.Opened → ℤ → ℕ
 taken_by o len = min (nat_abs len) (rest_in o.session)
+
+-- an unpack session over a type and a buffer of so many bytes, as it is opened
+abbrev pub receiving : Kept → Rep → ℤ → ℤ → ℕ → unpack.Session
+receiving kept rep count origin len = unpack.opened (typemap_of kept.ty) (nat_abs count) rep origin len
+
+-- the state where a piece was given to the session of a name, whose buffer had these bytes, and was counted
+abbrev pub with_piece : State → List ℕ → opened.Opened → List ℕ → List ℕ → State
+with_piece s name o bytes piece = with_received (with_given s name o bytes piece) (length piece) (receipt_in o.session piece).completed
 
 -- what a command replies and changes that is not refused
 abbrev pub Performs : Command → State → Reply → State → Type 0
@@ -94,6 +103,15 @@ Performs (Seek session byte) s reply t =
 Performs (Close session) s reply t =
     (o : opened.Opened) × (session_of s session ≡ Some o) × (reply ≡ Closed (passed_in o.session) (total_in o.session))
     × (t ≡ with_count (without_session s session))
+-- the new name stands for an unpack session over the type as it is now, and how many packed bytes there are is told
+Performs (Unpack name rep count ty buffer origin) s reply t =
+    (kept : Kept) × (bytes : List ℕ) × (type_of s ty ≡ Some kept) × (buffer_of s buffer ≡ Some bytes)
+    × (reply ≡ Opened (unpack.total_of (receiving kept rep count origin (length bytes))))
+    × (t ≡ with_count (with_session s name (unpacking buffer (receiving kept rep count origin (length bytes)))))
+-- the elements that the piece completes are set in the session's buffer as it is now, and what the piece came to is told
+Performs (Give session piece) s reply t =
+    (o : opened.Opened) × (bytes : List ℕ) × (session_of s session ≡ Some o) × (buffer_of s o.buffer ≡ Some bytes)
+    × (reply ≡ Given (receipt_in o.session piece)) × (t ≡ with_count (with_piece s session o bytes piece))
 -- trees are weighed so from now on
 Performs (Weights leaf vector index place group part) s reply t =
     (reply ≡ Done) × (t ≡ with_count (with_weights s (weights_by leaf vector index place group part)))

@@ -10,6 +10,7 @@ pub mod machine;
 mod names;
 mod outcome;
 mod queries;
+mod receiving;
 mod sessions;
 pub mod state;
 mod trees;

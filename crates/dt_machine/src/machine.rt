@@ -1,14 +1,15 @@
 ghost use Rattle.std.specs.Prelude.{◌≡◌, ◌↔◌, ◌++◌, ℕ, List, IsTrue, true, false, IfOk, OnOk, OnErr, MatchOption, MatchResult, None, Some, min, length};
 ghost use Rattle.std.specs.Option.{option_map_or, IsSomeAnd};
-ghost use Rattle.dt_machine.specs.Outcome.{CanChange, ComesTo, changed};
+ghost use Rattle.dt_machine.specs.Outcome.{CanChange, ComesTo, IsGift, changed};
 ghost use Rattle.dt_names.specs.Missing.{IsMissing};
 ghost use Rattle.dt_machine.specs.State.{first_state, type_of, buffer_of, is_unknown, is_basic_word, is_type_taken, is_buffer_taken, bytes_held, session_of, is_session_taken, packed_open, with_count};
 ghost use Rattle.dt_sessions.specs.declared.session.Opened.{Opened as OpenedValue};
-ghost use Rattle.dt_sessions.specs.Open.{next_in, CanTake, IsSmall};
+ghost use Rattle.dt_script.specs.declared.command.Command.TheVariants.{Give};
+ghost use Rattle.dt_sessions.specs.Open.{next_in, receipt_in, CanGive, CanTake, IsSmall};
 ghost use Rattle.dt_names.specs.Names.{under};
 ghost use Rattle.dt_machine.specs.Refusal.{NoMoreTypes};
 ghost use Rattle.dt_names.specs.Found.{IsFoundType};
-ghost use Rattle.dt_machine.specs.Step.{Step, Obeys};
+ghost use Rattle.dt_machine.specs.Step.{Step, Obeys, with_piece};
 ghost use Rattle.dt_reply.specs.Reply.{Gives, Responds, text_of};
 ghost use Rattle.dt_reply.specs.declared.reply.Reply.TheVariants.{Refused};
 
@@ -17,7 +18,7 @@ use crate::outcome::{Change, Outcome};
 use crate::state::Totals;
 use dt_kinds::NoMemory;
 use dt_names::{Found, Kept, Stop, Types};
-use dt_reply::{Refusal, Reply};
+use dt_reply::{Receipt, Refusal, Reply};
 use dt_script::{Bytes, Command, LineFault, Name, parse_line};
 use dt_sessions::{Session, Transfers};
 use dt_tree::Weights;
@@ -45,6 +46,16 @@ impl Model for Machine {
     ghost coded = { Prim.hlevel (codes, datatype.the_row.coded) };
 
     ghost view = { λ m. record { types = m.types.entries; made = m.types.made; buffers = m.transfers.buffers; sessions = m.transfers.sessions; weights = m.weights; totals = m.totals } };
+}
+
+/// The session and the piece of a command that gives one.
+fn gift(command: &Command) -> Option<(&Name, &[u8])>
+    ensures { MatchOption result (¬ IsGift command.now) (λ gift. command.now ≡ Give gift.0.now gift.1.now) }
+{
+    match command {
+        Command::Give { session, bytes } => Some((session, bytes.as_slice())),
+        _ => None,
+    }
 }
 
 impl Machine {
@@ -209,6 +220,18 @@ impl Machine {
         Ok(Bytes::from_vec(bytes))
     }
 
+    /// Gives a session the next packed bytes, and counts them and the command. Answers what they came to. It takes no memory.
+    pub(crate) fn receive(&mut self, name: &Name, piece: &[u8]) -> Receipt
+        requires { IsSomeAnd (session_of self.old name.now) (λ opened. CanGive opened.session piece.now) }
+        ensures { (opened : OpenedValue) → session_of self.old name.now ≡ Some opened → (bytes : List ℕ) × (buffer_of self.old opened.buffer ≡ Some bytes) × (self.new ≡ with_count (with_piece self.old name.now opened bytes piece.now)) × (result ≡ receipt_in opened.session piece.now) }
+    {
+        let receipt = self.transfers.give(self.alloc, name, piece);
+        self.totals.given = self.totals.given.saturating_add(piece.len() as u64);
+        self.totals.elements = self.totals.elements.saturating_add(receipt.completed);
+        self.totals.commands = self.totals.commands.saturating_add(1);
+        receipt
+    }
+
     /// Makes a change, and counts the command.
     fn change(&mut self, change: Change) -> Result<(), NoMemory>
         requires { CanChange change self.old }
@@ -252,7 +275,7 @@ impl Machine {
     }
 
     /// Replies a refusal.
-    fn refuse(&self, refusal: Refusal, out: &mut Vec<u8>) -> Result<bool, NoMemory>
+    pub(crate) fn refuse(&self, refusal: Refusal, out: &mut Vec<u8>) -> Result<bool, NoMemory>
         ensures ok { IfOk result (λ accepted. Gives (Refused refusal) accepted out.old.items out.new.items) }
         ensures err { OnErr result (out.new.items ≡ out.old.items) }
     {
@@ -260,8 +283,9 @@ impl Machine {
         Ok(false)
     }
 
-    /// What a command comes to. It changes nothing.
+    /// What a command comes to that gives no piece. It changes nothing.
     fn outcome(&mut self, command: &Command) -> Result<Outcome, Stop>
+        requires { ¬ IsGift command.now }
         ensures same { self.new ≡ self.old }
         ensures outcome { ComesTo self.old command.now result }
     {
@@ -295,6 +319,15 @@ impl Machine {
             Command::Take { session, len } => self.take(session, *len),
             Command::Seek { session, byte } => self.seek(session, *byte),
             Command::Close { session } => self.close(session),
+            Command::Unpack {
+                name,
+                rep,
+                count,
+                ty,
+                buffer,
+                origin,
+            } => self.unpack(name, *rep, *count, ty, buffer, *origin),
+            Command::Give { .. } => unreachable!(),
             Command::Weights {
                 leaf,
                 vector,
@@ -315,6 +348,9 @@ impl Machine {
             (λ reply. Obeys command.now self.old reply self.new) accepted out.old.items out.new.items) }
         ensures err { OnErr result ((self.new ≡ self.old) × (out.new.items ≡ out.old.items)) }
     {
+        if let Some((session, piece)) = gift(command) {
+            return self.give(session, piece, out);
+        }
         match self.outcome(command) {
             Ok(outcome) => self.perform(outcome, out),
             Err(Stop::Refused(refusal)) => self.refuse(refusal, out),

@@ -6,7 +6,7 @@ ghost use Rattle.dt_map.specs.Packed.{total};
 ghost use Rattle.dt_names.specs.declared.kept.Kept.{Kept as KeptValue};
 ghost use Rattle.dt_pack.specs.Session as pack;
 ghost use Rattle.dt_sessions.specs.Open.{total_in, passed_in, rest_in};
-ghost use Rattle.dt_machine.specs.Operation.{session_names_row, opening_row};
+ghost use Rattle.dt_machine.specs.Operation.{session_names_row, place_row, opening_row};
 ghost use Rattle.dt_machine.specs.Outcome.{ComesTo};
 ghost use Rattle.dt_machine.specs.Refusal.{IsTooMuch, IsBeyond};
 ghost use Rattle.dt_machine.specs.Row.{IsFirst, IsClear};
@@ -63,7 +63,7 @@ fn taken_of(session: &Session, len: u32) -> (u64, u64)
 
 impl Machine {
     /// Why no session is opened over a buffer that stands, by the names alone.
-    fn refused_session(&self, name: &Name, ty: &Name) -> Option<Refusal>
+    pub(crate) fn refused_session(&self, name: &Name, ty: &Name) -> Option<Refusal>
         ensures { MatchOption result (IsClear (session_names_row self.now name.now ty.now)) (IsFirst (session_names_row self.now name.now ty.now)) }
     {
         if self.is_unknown(ty) {
@@ -78,7 +78,7 @@ impl Machine {
     }
 
     /// Whether the packed bytes of an operation and of all open sessions are too many.
-    fn is_too_much(&self, ty: &Datatype, rep: Rep, copies: u32) -> bool
+    pub(crate) fn is_too_much(&self, ty: &Datatype, rep: Rep, copies: u32) -> bool
         ensures { (kept : KeptValue) (count origin : ℤ) → ty.now ≡ kept.ty → copies ≡ nat_abs count → IsTrue result ↔ IsTooMuch self.now rep count origin kept }
     {
         let open = self.packed_open();
@@ -86,6 +86,31 @@ impl Machine {
     }
 
     /// Why no session is opened, by the type, the numbers and the length of the buffer.
+    pub(crate) fn refused_place(
+        &self,
+        kept: &Kept,
+        count: i32,
+        origin: i64,
+        len: usize,
+    ) -> Option<Refusal>
+        ensures { MatchOption result (IsClear (place_row self.now kept.now count origin len)) (IsFirst (place_row self.now kept.now count origin len)) }
+    {
+        if !kept.committed {
+            return Some(Refusal::NotCommitted);
+        }
+        if count < 0 {
+            return Some(Refusal::BadArgument);
+        }
+        if self.count_of_sessions() >= MOST_SESSIONS {
+            Some(Refusal::TooManyNames)
+        } else if !span_inside(&kept.ty, count.unsigned_abs(), origin, len) {
+            Some(Refusal::Outside)
+        } else {
+            None
+        }
+    }
+
+    /// Why no pack session is opened, by its place and by the packed bytes of all sessions.
     fn refused_opening(
         &self,
         kept: &Kept,
@@ -96,18 +121,9 @@ impl Machine {
     ) -> Option<Refusal>
         ensures { MatchOption result (IsClear (opening_row self.now kept.now rep count origin len)) (IsFirst (opening_row self.now kept.now rep count origin len)) }
     {
-        if !kept.committed {
-            return Some(Refusal::NotCommitted);
-        }
-        if count < 0 {
-            return Some(Refusal::BadArgument);
-        }
-        let copies = count.unsigned_abs();
-        if self.count_of_sessions() >= MOST_SESSIONS {
-            Some(Refusal::TooManyNames)
-        } else if !span_inside(&kept.ty, copies, origin, len) {
-            Some(Refusal::Outside)
-        } else if self.is_too_much(&kept.ty, rep, copies) {
+        if let Some(refusal) = self.refused_place(kept, count, origin, len) {
+            Some(refusal)
+        } else if self.is_too_much(&kept.ty, rep, count.unsigned_abs()) {
             Some(Refusal::TooLarge)
         } else {
             None
@@ -162,6 +178,9 @@ impl Machine {
         if len < 0 {
             return Err(Stop::Refused(Refusal::BadArgument));
         }
+        if !found.is_packing() {
+            return Err(Stop::Refused(Refusal::WrongDirection));
+        }
         let (count, byte) = taken_of(found, len.unsigned_abs());
         let name = session.copied()?;
         let reply = Reply::Packed(self.next_bytes(session, count as usize)?);
@@ -178,6 +197,9 @@ impl Machine {
         };
         if byte < 0 || byte.unsigned_abs() > found.total() {
             return Err(Stop::Refused(Refusal::BadArgument));
+        }
+        if !found.is_packing() {
+            return Err(Stop::Refused(Refusal::WrongDirection));
         }
         let name = session.copied()?;
         let byte = byte.unsigned_abs();

@@ -49,6 +49,20 @@ impl Buffer {
         Ok(Buffer { bytes })
     }
 
+    /// A buffer of these bytes. It takes no memory.
+    pub fn from_vec(bytes: Vec<u8>) -> Buffer
+        ensures { result ≡ bytes.items }
+    {
+        Buffer { bytes }
+    }
+
+    /// The bytes of the buffer. It takes no memory.
+    pub fn into_vec(self) -> Vec<u8>
+        ensures { result.items ≡ self }
+    {
+        self.bytes
+    }
+
     pub fn as_slice(&self) -> &[u8]
         ensures { result.now ≡ self.now }
     {

@@ -1,6 +1,7 @@
 //! The buffers that stand, by name.
 ghost use Rattle.std.specs.Prelude.{◌≡◌, OnOk, OnErr, MatchOption, [], None, Some, is_some, length, min};
-ghost use Rattle.std.specs.BTreeMap.{insert_entry};
+ghost use Rattle.std.specs.BTreeMap.{is_at, insert_entry};
+ghost use Rattle.std.specs.Map.{set_value};
 ghost use Rattle.std.specs.Cmp.Lexicographic.{slice_cmp};
 ghost use Rattle.std.specs.Ordering.{nat_cmp};
 ghost use Rattle.dt_names.specs.Names.{under, bytes_in};
@@ -11,6 +12,7 @@ use dt_script::Name;
 use std::alloc::Global;
 use std::collections::BTreeMap;
 use std::marker::Model;
+use std::mem::replace;
 
 /// The buffers that stand, each under a name.
 #[derive(Drop)]
@@ -78,5 +80,17 @@ impl Buffers {
     {
         self.names.insert(name, buffer)?;
         Ok(())
+    }
+
+    /// Puts a buffer in the place of one that stands, and answers the old one. It takes no memory.
+    pub fn swap(&mut self, name: &Name, buffer: Buffer) -> Buffer
+        requires { ¬ (under name.now self.old ≡ None) }
+        ensures was { under name.now self.old ≡ Some result }
+        ensures swapped { self.new ≡ set_value (is_at (slice_cmp nat_cmp name.now)) self.old buffer }
+    {
+        let Some(old) = self.names.get_mut(name) else {
+            unreachable!()
+        };
+        replace(old, buffer)
     }
 }

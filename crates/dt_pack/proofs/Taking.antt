@@ -1,6 +1,6 @@
 -- The packed bytes that come next of elements, by the rows that a walk names.
 use borrow.Rule.Slice.PartMut.{put_mid}
-use Rattle.std.proofs.Common.{min, ◌≡◌, ℕ, ◌+◌, ◌-◌, ◌≤◌, ◌<◌, true, ℤ, List, ◌++◌, take, drop, length, [], sym, ap, ◌∙◌, arith, append-nil, append_assoc, length-append, length-drop}
+use Rattle.std.proofs.Common.{refl, min, ◌≡◌, ℕ, ◌+◌, ◌-◌, ◌≤◌, ◌<◌, true, ℤ, List, ◌++◌, take, drop, length, [], sym, ap, ◌∙◌, arith, append-nil, append_assoc, length-append, length-drop}
 use Rattle.std.proofs.lemmas.Bool.{and_parts}
 use Rattle.std.proofs.lemmas.Grind.{flat_map-append}
 use Rattle.std.proofs.lemmas.List.{take-append-le, drop-append-le, drop_all, take_all, take_at, drop_at, drop-drop, length-take-le}
@@ -16,6 +16,7 @@ use Rattle.dt_map.specs.Typemap.{shift}
 use Rattle.dt_map.proofs.Copies.{total-append, total-shift}
 use Rattle.dt_map.proofs.Placings.{shift-append}
 use Rattle.dt_map.proofs.Writing.{packed_has_total}
+use Rattle.dt_pack.specs.Laws.{TakesAreJoined}
 use Rattle.dt_pack.specs.Session.{Session, IsLimited, placed, total_of, rest_of, next_bytes, after, at_byte, walk_of}
 use Rattle.dt_rows.specs.declared.rows.Rows.{Rows}
 use Rattle.dt_rows.specs.Rows.{elements_of_rows, bytes_in, packed_rows}
@@ -132,3 +133,7 @@ whole_taken s buffer old new items n len inside start room all count bytes long 
     ap (λ p. take n (drop p images)) start ∙ ap (take n) (drop_none images) ∙ take_all n images (omega (arith, total_is, whole)) in
     take_at new (drop (length new) items) len long
     ∙ bytes ∙ ap (λ t. next_bytes s buffer n ++ t) rest ∙ append-nil (next_bytes s buffer n) ∙ first
+
+-- takes, one after another
+pub takes_are_joined : TakesAreJoined
+takes_are_joined s buffer m n = (take_further (packed s.rep (placed s) buffer) s.position m n, moved_more s (after s m) (after (after s m) n) m n refl refl)

@@ -5,6 +5,7 @@ mod arguments;
 pub mod receipt;
 pub mod refusal;
 pub mod reply;
+pub mod reserved;
 mod text;
 
 pub use receipt::Receipt;
@@ -13,3 +14,4 @@ pub use reply::{
     OK, Reply, closed_line, contents_line, counts_line, envelope_line, info_line, map_line,
     ok_line, opened_line, packed_line, receipt_line, refusal_line, shown_line, tree_line,
 };
+pub use reserved::{RECEIPT_ROOM, write_receipt};

@@ -1,11 +1,11 @@
 -- A command is read exactly where the words of a line are in its form.
 use Rattle.std.proofs.Common.{◌≡◌, Some, refl}
 use Rattle.dt_script.specs.declared.command.Command.{Command}
-use Rattle.dt_script.specs.declared.command.Command.TheVariants.{Define, Child, Commit, Free, Info, Map, Envelope, Contents, Buffer, Show, Bytes, Elements, Pack, Take, Seek, Close, Weights, Normalise, Rebuild}
+use Rattle.dt_script.specs.declared.command.Command.TheVariants.{Define, Child, Commit, Free, Info, Map, Envelope, Contents, Buffer, Show, Bytes, Elements, Pack, Take, Seek, Close, Unpack, Give, Weights, Normalise, Rebuild}
 use Rattle.dt_script.specs.declared.command.Fill.{Fill}
 use Rattle.dt_script.specs.declared.command.Fill.TheVariants.{Zero, Count, Hex}
 use Rattle.dt_script.specs.Command.{IsFill, IsCommand}
-use Rattle.dt_script.specs.Forms.{zero, count, hex, fill_forms, fill_of, define, child, commit, free, info, map, envelope, contents, buffer, show, bytes, counts, weights, normalise, rebuild, pack, take, seek, close, session_forms, tree_forms, buffer_forms, question_forms, command_forms, command_of}
+use Rattle.dt_script.specs.Forms.{zero, count, hex, fill_forms, fill_of, define, child, commit, free, info, map, envelope, contents, buffer, show, bytes, counts, weights, normalise, rebuild, pack, take, seek, close, unpack, give, unpack_forms, session_forms, tree_forms, buffer_forms, question_forms, command_forms, command_of}
 use Rattle.dt_script.specs.Item.{Words}
 use Rattle.dt_script.proofs.CtorLemmas.{ctor_sound, ctor_complete}
 use Rattle.dt_script.proofs.FormLemmas.{any_sound, any_complete}
@@ -32,7 +32,7 @@ fill_complete ws (Hex given) h = any_complete fill_forms hex tt ws (given, tt) h
 
 -- what is read is in the form of the command
 pub command_sound : (ws : Words) (c : Command) → command_of ws ≡ Some c → IsCommand ws c
-unfolding command_of command_forms question_forms buffer_forms tree_forms session_forms
+unfolding command_of command_forms question_forms buffer_forms tree_forms session_forms unpack_forms
 command_sound ws c e =
     any_sound IsCommand command_forms ws c e (
       (ctor_sound, λ ws v h. (ws, refl, h)),
@@ -72,7 +72,13 @@ command_sound ws c e =
                                         (tt, λ ws v h. (ws, refl, h)),
                                         (
                                           (tt, λ ws v h. (ws, refl, h)),
-                                          tt,
+                                          (
+                                            (tt, λ ws v h. (ws, refl, h)),
+                                            (
+                                              (tt, λ ws v h. (ws, refl, h)),
+                                              tt,
+                                            ),
+                                          ),
                                         ),
                                       ),
                                     ),
@@ -95,7 +101,7 @@ command_sound ws c e =
 
 -- what is in the form of a command is read
 pub command_complete : (ws : Words) (c : Command) → IsCommand ws c → command_of ws ≡ Some c
-unfolding command_of command_forms question_forms buffer_forms tree_forms session_forms
+unfolding command_of command_forms question_forms buffer_forms tree_forms session_forms unpack_forms
 command_complete ws (Define name ctor) h = any_complete command_forms define ctor_complete ws (name, ctor) h (λ _. refl)
 command_complete ws (Child name ty k) h = any_complete command_forms child tt ws (name, (ty, (k, tt))) h (λ _. refl)
 command_complete ws (Commit ty) h = any_complete command_forms commit tt ws (ty, tt) h (λ _. refl)
@@ -113,6 +119,9 @@ command_complete ws (Pack session rep copies ty name origin) h =
 command_complete ws (Take session len) h = any_complete command_forms take tt ws (session, (len, tt)) h (λ _. refl)
 command_complete ws (Seek session byte) h = any_complete command_forms seek tt ws (session, (byte, tt)) h (λ _. refl)
 command_complete ws (Close session) h = any_complete command_forms close tt ws (session, tt) h (λ _. refl)
+command_complete ws (Unpack session rep copies ty name origin) h =
+    any_complete command_forms unpack tt ws (session, (rep, (copies, (ty, (name, (origin, tt)))))) h (λ _. refl)
+command_complete ws (Give session piece) h = any_complete command_forms give tt ws (session, (piece, tt)) h (λ _. refl)
 command_complete ws (Weights leaf vector index place group part) h =
     any_complete command_forms weights tt ws (leaf, (vector, (index, (place, (group, (part, tt)))))) h (λ _. refl)
 command_complete ws (Normalise ty) h = any_complete command_forms normalise tt ws (ty, tt) h (λ _. refl)

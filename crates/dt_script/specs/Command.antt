@@ -1,7 +1,7 @@
 -- The line forms as relations between the words of a line and a command, one case for each form.
 use Rattle.std.specs.Prelude.{codes}
 use Rattle.dt_script.specs.declared.command.Command.{Command}
-use Rattle.dt_script.specs.declared.command.Command.TheVariants.{Define, Child, Commit, Free, Info, Map, Envelope, Contents, Buffer, Show, Bytes, Elements, Pack, Take, Seek, Close, Weights, Normalise, Rebuild}
+use Rattle.dt_script.specs.declared.command.Command.TheVariants.{Define, Child, Commit, Free, Info, Map, Envelope, Contents, Buffer, Show, Bytes, Elements, Pack, Take, Seek, Close, Unpack, Give, Weights, Normalise, Rebuild}
 use Rattle.dt_script.specs.declared.command.Ctor.{Ctor}
 use Rattle.dt_script.specs.declared.command.Ctor.TheVariants.{Contiguous, Vector, Hvector, Indexed, Hindexed, IndexedBlock, HindexedBlock, Struct, Resized, Dup, Subarray, Darray}
 use Rattle.dt_script.specs.declared.command.Fill.{Fill}
@@ -58,6 +58,9 @@ IsCommand words (Pack name rep count ty buffer origin) =
 IsCommand words (Take session len) = words spell the (codes "take") then item NAME session then item INT len then end
 IsCommand words (Seek session byte) = words spell the (codes "seek") then item NAME session then item ADDR byte then end
 IsCommand words (Close session) = words spell the (codes "close") then item NAME session then end
+IsCommand words (Unpack name rep count ty buffer origin) =
+    words spell the (codes "unpack") then item NAME name then item REP rep then item INT count then item NAME ty then item NAME buffer then item ADDR origin then end
+IsCommand words (Give session bytes) = words spell the (codes "give") then item NAME session then item HEX bytes then end
 IsCommand words (Weights leaf vector index place group part) =
     words spell the (codes "weights") then item INT leaf then item INT vector then item INT index then item INT place then item INT group then item INT part then end
 IsCommand words (Normalise ty) = words spell the (codes "normalise") then item NAME ty then end

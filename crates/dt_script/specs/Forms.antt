@@ -1,7 +1,7 @@
 -- The line forms by description: the words of each in their order, which say how it is read.
 use Rattle.std.specs.Prelude.{List, [], ◌∷◌, Option, codes}
 use Rattle.dt_script.specs.declared.command.Command.{Command}
-use Rattle.dt_script.specs.declared.command.Command.TheVariants.{Define, Child, Commit, Free, Info, Map, Envelope, Contents, Buffer, Show, Bytes, Elements, Pack, Take, Seek, Close, Weights, Normalise, Rebuild}
+use Rattle.dt_script.specs.declared.command.Command.TheVariants.{Define, Child, Commit, Free, Info, Map, Envelope, Contents, Buffer, Show, Bytes, Elements, Pack, Take, Seek, Close, Unpack, Give, Weights, Normalise, Rebuild}
 use Rattle.dt_script.specs.declared.command.Ctor.{Ctor}
 use Rattle.dt_script.specs.declared.command.Ctor.TheVariants.{Contiguous, Vector, Hvector, Indexed, Hindexed, IndexedBlock, HindexedBlock, Struct, Resized, Dup, Subarray, Darray}
 use Rattle.dt_script.specs.declared.command.Fill.{Fill}
@@ -131,6 +131,12 @@ seek = form (codes "seek") (NAME & ADDR & END) Seek
 abbrev pub close : Form Command
 close = form (codes "close") (NAME & END) Close
 
+abbrev pub unpack : Form Command
+unpack = form (codes "unpack") (NAME & REP & INT & NAME & NAME & ADDR & END) Unpack
+
+abbrev pub give : Form Command
+give = form (codes "give") (NAME & HEX & END) Give
+
 abbrev pub weights : Form Command
 weights = form (codes "weights") (INT & INT & INT & INT & INT & INT & END) Weights
 
@@ -140,9 +146,12 @@ normalise = form (codes "normalise") (NAME & END) Normalise
 abbrev pub rebuild : Form Command
 rebuild = form (codes "rebuild") (NAME & WORD (codes "=") (NAME & END)) Rebuild
 
--- those on sessions; those on trees, and the former; those on buffers and received bytes, and these; those that ask about types, and these; and all
+-- those that receive; those on sessions, and the former; those on trees, and these; those on buffers and received bytes, and these; those that ask about types, and these; and all
+unfoldable pub unpack_forms : List (Form Command)
+unpack_forms = unpack ∷ give ∷ []
+
 unfoldable pub session_forms : List (Form Command)
-session_forms = pack ∷ take ∷ seek ∷ close ∷ []
+session_forms = pack ∷ take ∷ seek ∷ close ∷ unpack_forms
 
 unfoldable pub tree_forms : List (Form Command)
 tree_forms = weights ∷ normalise ∷ rebuild ∷ session_forms

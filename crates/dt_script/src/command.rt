@@ -91,6 +91,20 @@ pub enum Command {
     Close {
         session: Name,
     },
+    /// `unpack SESSION REP COUNT TYPE BUFFER ORIGIN`
+    Unpack {
+        name: Name,
+        rep: Rep,
+        count: i32,
+        ty: Name,
+        buffer: Name,
+        origin: i64,
+    },
+    /// `give SESSION HEX`
+    Give {
+        session: Name,
+        bytes: Bytes,
+    },
     /// `weights LEAF VECTOR INDEX PLACE GROUP PART`
     Weights {
         leaf: i32,

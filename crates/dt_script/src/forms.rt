@@ -3,7 +3,7 @@ ghost use Rattle.std.specs.Prelude.{◌≡◌};
 ghost use Rattle.dt_script.specs.Words.{words_of};
 ghost use Rattle.dt_script.specs.Reading.{Gives};
 ghost use Rattle.dt_script.specs.Form.{behind, one_of};
-ghost use Rattle.dt_script.specs.Forms.{hex, fill_of, define, child, buffer, weights, rebuild, session_forms, tree_forms, buffer_forms, question_forms, command_of};
+ghost use Rattle.dt_script.specs.Forms.{hex, fill_of, define, child, buffer, give, weights, rebuild, unpack_forms, session_forms, tree_forms, buffer_forms, question_forms, command_of};
 
 use crate::command::{Command, Fill};
 use crate::ctors::ctor;
@@ -95,7 +95,39 @@ fn rebuild(alloc: Global, line: &[u8]) -> Result<Command, LineFault>
     Ok(Command::Rebuild { name, ty })
 }
 
-/// What follows the first word of a command on sessions.
+/// `SESSION HEX`
+fn give(alloc: Global, line: &[u8]) -> Result<Command, LineFault>
+    ensures { Gives (λ x. x) result (behind give (words_of line.now)) }
+{
+    let (session, line) = item(line)?;
+    let (bytes, line) = hex(alloc, line)?;
+    end(line)?;
+    Ok(Command::Give { session, bytes })
+}
+
+/// What follows the first word of a command that receives.
+#[tactic(auto, unfolding(crate::specs::Forms::unpack_forms))]
+fn on_unpack(alloc: Global, first: &[u8], line: &[u8]) -> Result<Command, LineFault>
+    ensures { Gives (λ x. x) result (one_of unpack_forms first.now (words_of line.now)) }
+{
+    if first == b"unpack".as_slice() {
+        let (name, (rep, (count, (ty, (buffer, (origin, ())))))) = Fields::read(alloc, line)?;
+        Ok(Command::Unpack {
+            name,
+            rep,
+            count,
+            ty,
+            buffer,
+            origin,
+        })
+    } else if first == b"give".as_slice() {
+        give(alloc, line)
+    } else {
+        Err(LineFault::Syntax)
+    }
+}
+
+/// What follows the first word of a command on sessions, or of one that receives.
 #[tactic(auto, unfolding(crate::specs::Forms::session_forms))]
 fn on_sessions(alloc: Global, first: &[u8], line: &[u8]) -> Result<Command, LineFault>
     ensures { Gives (λ x. x) result (one_of session_forms first.now (words_of line.now)) }
@@ -120,7 +152,7 @@ fn on_sessions(alloc: Global, first: &[u8], line: &[u8]) -> Result<Command, Line
         let (session, ()) = Fields::read(alloc, line)?;
         Ok(Command::Close { session })
     } else {
-        Err(LineFault::Syntax)
+        on_unpack(alloc, first, line)
     }
 }
 

@@ -1,5 +1,5 @@
 -- Each session stays over its buffer, as buffers and sessions come and go.
-use Rattle.std.proofs.Common.{◌≡◌, ℕ, Bool, true, false, cond, List, [], ◌∷◌, length, Option, Some, None, refl, sym, ap, subst, ◌∙◌}
+use Rattle.std.proofs.Common.{◌≡◌, ℕ, ◌≤◌, Bool, true, false, cond, List, [], ◌∷◌, length, Option, Some, None, refl, sym, ap, subst, ◌∙◌}
 use Rattle.std.proofs.lemmas.Bool.{false_from_ne_true}
 use Rattle.std.proofs.lemmas.Map.Text.{is_eq-slice_cmp}
 use Rattle.std.proofs.lemmas.Slice.Eq.{bytes_eq-Decides}
@@ -14,8 +14,8 @@ use Rattle.std.specs.Ordering.{is_eq, match_ordering, nat_cmp}
 use Rattle.dt_names.specs.Names.{under}
 use Rattle.dt_sessions.specs.declared.session.Opened.{Opened}
 use Rattle.dt_sessions.specs.declared.session.Session.{Session}
-use Rattle.dt_sessions.specs.declared.session.Session.TheVariants.{Pack}
-use Rattle.dt_sessions.specs.Open.{buf_len_in, at_byte_in, opened_at, IsOver, IsSmall, HoldsOpen}
+use Rattle.dt_sessions.specs.declared.session.Session.TheVariants.{Pack, Unpack}
+use Rattle.dt_sessions.specs.Open.{buf_len_in, at_byte_in, given_in, opened_at, opened_given, IsOver, IsSmall, HoldsOpen}
 
 -- what holds of each thing that stands under a name
 module _ {A : Type 0} (P : A → Type 0) where
@@ -151,7 +151,91 @@ module _ (buffers : List (List ℕ × List ℕ)) (sessions : List (List ℕ × O
 -- a session keeps its buffer where it goes
 len_at : (session : Session) (byte : ℕ) → buf_len_in (at_byte_in session byte) ≡ buf_len_in session
 len_at (Pack s) byte = refl
+len_at (Unpack s) byte = refl
 
 pub over_at : (buffers : List (List ℕ × List ℕ)) (opened : Opened) (byte : ℕ) → IsOver buffers opened → IsOver buffers (opened_at opened byte)
 over_at buffers opened byte over =
     subst (λ n. IsSomeAnd (under opened.buffer buffers) (λ held. length held ≡ n)) (sym (len_at opened.session byte)) over
+
+-- and where a piece is given to it
+len_given : (session : Session) (piece : List ℕ) → buf_len_in (given_in session piece) ≡ buf_len_in session
+len_given (Pack s) piece = refl
+len_given (Unpack s) piece = refl
+
+over_given : (buffers : List (List ℕ × List ℕ)) (opened : Opened) (piece : List ℕ) → IsOver buffers opened → IsOver buffers (opened_given opened piece)
+over_given buffers opened piece over =
+    subst (λ n. IsSomeAnd (under opened.buffer buffers) (λ held. length held ≡ n)) (sym (len_given opened.session piece)) over
+
+-- what is put in the place of something stands there, and the last thing that is put there stays
+module _ {A : Type 0} (test : List ℕ → Bool) where
+  pub found_set : (es : List (List ℕ × A)) (x y : A) → lookup test es ≡ Some x → lookup test (set_value test es y) ≡ Some y
+  found_set [] x y at = cc
+  found_set (e ∷ es) x y at = by (test e.0) refl at (found_set es x y)
+    where
+      by : (b : Bool) → test e.0 ≡ b → cond b (Some e.1) (lookup test es) ≡ Some x
+          → (lookup test es ≡ Some x → lookup test (set_value test es y) ≡ Some y)
+          → lookup test (cond b ((e.0, y) ∷ es) (e ∷ set_value test es y)) ≡ Some y
+      by true is at rest = ap (λ b. cond b (Some y) (lookup test es)) is
+      by false is at rest = ap (λ b. cond b (Some e.1) (lookup test (set_value test es y))) is ∙ rest at
+
+  pub set_twice : (es : List (List ℕ × A)) (x y : A) → set_value test (set_value test es x) y ≡ set_value test es y
+  set_twice [] x y = refl
+  set_twice (e ∷ es) x y = by (test e.0) refl (set_twice es x y)
+    where
+      by : (b : Bool) → test e.0 ≡ b → set_value test (set_value test es x) y ≡ set_value test es y
+          → set_value test (cond b ((e.0, x) ∷ es) (e ∷ set_value test es x)) y ≡ cond b ((e.0, y) ∷ es) (e ∷ set_value test es y)
+      by true is rest = ap (λ b. cond b ((e.0, y) ∷ es) ((e.0, x) ∷ set_value test es y)) is
+      by false is rest = ap (λ b. cond b ((e.0, y) ∷ set_value test es x) (e ∷ set_value test (set_value test es x) y)) is ∙ ap (λ l. e ∷ l) rest
+
+  -- what holds of a thing under another name still holds, where it passes from the old thing to the new one
+  pub still_found : (P : A → Type 0) (other : List ℕ → Bool) (es : List (List ℕ × A)) (x y : A) → lookup test es ≡ Some x → (P x → P y)
+      → IsSomeAnd (lookup other es) P → IsSomeAnd (lookup other (set_value test es y)) P
+  still_found P other [] x y at passes holds = holds
+  still_found P other (e ∷ es) x y at passes holds = by (test e.0) at (still_found P other es x y)
+    where
+      here : e.1 ≡ x → (b : Bool) → IsSomeAnd (cond b (Some e.1) (lookup other es)) P → IsSomeAnd (cond b (Some y) (lookup other es)) P
+      here same true given = passes (subst P same given)
+      here same false given = given
+
+      behind : (b : Bool) → IsSomeAnd (cond b (Some e.1) (lookup other es)) P
+          → (IsSomeAnd (lookup other es) P → IsSomeAnd (lookup other (set_value test es y)) P)
+          → IsSomeAnd (cond b (Some e.1) (lookup other (set_value test es y))) P
+      behind true given rest = given
+      behind false given rest = rest given
+
+      by : (b : Bool) → cond b (Some e.1) (lookup test es) ≡ Some x
+          → (lookup test es ≡ Some x → (P x → P y) → IsSomeAnd (lookup other es) P → IsSomeAnd (lookup other (set_value test es y)) P)
+          → IsSomeAnd (lookup other (cond b ((e.0, y) ∷ es) (e ∷ set_value test es y))) P
+      by true is rest = let same : e.1 ≡ x = cc in here same (other e.0) holds
+      by false is rest = behind (other e.0) holds (rest is passes)
+
+-- where a buffer is put in the place of one that is as long
+module _ (buffers : List (List ℕ × List ℕ)) (name old new : List ℕ) (at : under name buffers ≡ Some old) (long : length new ≡ length old) where
+  pub over_set : (opened : Opened) → IsOver buffers opened → IsOver (set_value (is_at (slice_cmp nat_cmp name)) buffers new) opened
+  over_set opened over =
+      still_found (is_at (slice_cmp nat_cmp name)) (λ held. length held ≡ buf_len_in opened.session) (is_at (slice_cmp nat_cmp opened.buffer)) buffers old new at
+      (λ is. long ∙ is) over
+
+  all_over_set : (sessions : List (List ℕ × Opened)) → Each (IsOver buffers) sessions
+      → Each (IsOver (set_value (is_at (slice_cmp nat_cmp name)) buffers new)) sessions
+  all_over_set [] all = tt
+  all_over_set (e ∷ es) all = (over_set e.1 all.0, all_over_set es all.1)
+
+  pub holds_set : (sessions : List (List ℕ × Opened)) → HoldsOpen buffers sessions
+      → HoldsOpen (set_value (is_at (slice_cmp nat_cmp name)) buffers new) sessions
+  holds_set sessions holds = record {
+    small =
+        each_set IsSmall (is_at (slice_cmp nat_cmp name)) buffers new holds.small
+        (subst (λ n. n ≤ 16777216) (sym long) (each_found IsSmall (is_at (slice_cmp nat_cmp name)) buffers old holds.small at));
+    over = all_over_set sessions holds.over;
+  }
+
+-- where a piece is given to a session, and its buffer stays as long
+pub holds_given : (buffers : List (List ℕ × List ℕ)) (sessions : List (List ℕ × Opened)) (name : List ℕ) (opened : Opened) (piece old new : List ℕ)
+    → HoldsOpen buffers sessions → under name sessions ≡ Some opened → under opened.buffer buffers ≡ Some old → length new ≡ length old
+    → HoldsOpen (set_value (is_at (slice_cmp nat_cmp opened.buffer)) buffers new) (set_value (is_at (slice_cmp nat_cmp name)) sessions (opened_given opened piece))
+holds_given buffers sessions name opened piece old new holds found at long =
+    let test = is_at (slice_cmp nat_cmp opened.buffer) in
+    holds_moved (set_value test buffers new) sessions (is_at (slice_cmp nat_cmp name)) (opened_given opened piece)
+    (holds_set buffers opened.buffer old new at long sessions holds)
+    (over_given (set_value test buffers new) opened piece (over_set buffers opened.buffer old new at long opened (over_found buffers sessions name opened holds found)))

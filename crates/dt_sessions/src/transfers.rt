@@ -2,12 +2,13 @@
 ghost use Rattle.std.specs.Prelude.{◌≡◌, ℕ, List, OnOk, OnErr, MatchOption, None, Some, is_some, length, min};
 ghost use Rattle.std.specs.Option.{IsSomeAnd};
 ghost use Rattle.dt_names.specs.Names.{under, bytes_in};
-ghost use Rattle.dt_sessions.specs.Open.{nothing_stands, packed_in, next_in, opened_at, CanSeek, CanTake, with_buffer, with_opened, with_moved, without_session, IsOver, IsSmall};
+ghost use Rattle.dt_sessions.specs.Open.{nothing_stands, packed_in, next_in, opened_at, receipt_in, CanGive, CanSeek, CanTake, with_buffer, with_given, with_opened, with_moved, without_session, IsOver, IsSmall};
 ghost use Rattle.dt_sessions.specs.declared.session.Opened.{Opened as OpenedValue};
 
 use crate::session::{Opened, Session};
 use dt_kinds::NoMemory;
 use dt_names::{Buffer, Buffers};
+use dt_reply::Receipt;
 use dt_script::Name;
 use std::alloc::Global;
 use std::collections::BTreeMap;
@@ -151,6 +152,22 @@ impl Transfers {
             unreachable!()
         };
         opened.session.peek(buffer, out);
+    }
+
+    /// Gives a session the next packed bytes, and sets the elements of its buffer, as it is now, that they complete. Answers what they
+    /// came to. It takes no memory.
+    pub fn give(&mut self, alloc: Global, name: &Name, piece: &[u8]) -> Receipt
+        requires { IsSomeAnd (under name.now self.old.sessions) (λ opened. CanGive opened.session piece.now) }
+        ensures { (opened : OpenedValue) → under name.now self.old.sessions ≡ Some opened → (bytes : List ℕ) × (under opened.buffer self.old.buffers ≡ Some bytes) × (self.new ≡ with_given self.old name.now opened bytes piece.now) × (result ≡ receipt_in opened.session piece.now) }
+    {
+        let Some(opened) = self.sessions.get_mut(name) else {
+            unreachable!()
+        };
+        let nothing = Buffer::from_vec(Vec::new(alloc));
+        let mut bytes = self.buffers.swap(&opened.buffer, nothing).into_vec();
+        let receipt = opened.session.give(&mut bytes, piece);
+        self.buffers.swap(&opened.buffer, Buffer::from_vec(bytes));
+        receipt
     }
 
     /// Takes a session away.

@@ -291,7 +291,7 @@ const TREES: [&[u8]; 5] = [
 ];
 
 /// Lines on sessions and counts: a word too few or too many, another representation, and a number that is none or out of range.
-const OTHER_SESSIONS: [&[u8]; 12] = [
+const OTHER_SESSIONS: [&[u8]; 16] = [
     b"bytes external 1 t b 0",
     b"elements native 8",
     b"elements 8 t",
@@ -304,10 +304,14 @@ const OTHER_SESSIONS: [&[u8]; 12] = [
     b"seek p x",
     b"close",
     b"close p q",
+    b"unpack u native 1 t b",
+    b"give u",
+    b"give u 0",
+    b"give u 00 00",
 ];
 
 /// The same, spelled as they are read.
-const SESSIONS: [&[u8]; 8] = [
+const SESSIONS: [&[u8]; 12] = [
     b"bytes external32 1 t b 0",
     b"elements native -1 MPI_INT",
     b"elements external32 9223372036854775807 t",
@@ -316,6 +320,10 @@ const SESSIONS: [&[u8]; 8] = [
     b"take p -2147483648",
     b"seek p 9223372036854775807",
     b"close p",
+    b"unpack u native 2147483647 t b -9223372036854775808",
+    b"unpack MPI_u external32 -1 MPI_INT b 0",
+    b"give u -",
+    b"give u 00ff0a",
 ];
 
 /// Lines with the least and the greatest numbers and the longest names, spelled as they are read.

@@ -65,7 +65,7 @@ fn push_command(alloc: Global, out: &mut Vec<u8>, command: &Command) -> Result<(
             push_query(out, b"pack", name)?;
             push_operation(out, *rep, *count, ty, buffer, *origin)
         }
-        _ => push_later_command(out, command),
+        _ => push_later_command(alloc, out, command),
     }
 }
 
@@ -85,7 +85,11 @@ fn push_operation(
 }
 
 /// The commands on open sessions and on trees; nothing for the others.
-fn push_later_command(out: &mut Vec<u8>, command: &Command) -> Result<(), AllocError> {
+fn push_later_command(
+    alloc: Global,
+    out: &mut Vec<u8>,
+    command: &Command,
+) -> Result<(), AllocError> {
     match command {
         Command::Take { session, len } => {
             push_query(out, b"take", session)?;
@@ -96,6 +100,21 @@ fn push_later_command(out: &mut Vec<u8>, command: &Command) -> Result<(), AllocE
             push_number(out, *byte)
         }
         Command::Close { session } => push_query(out, b"close", session),
+        Command::Unpack {
+            name,
+            rep,
+            count,
+            ty,
+            buffer,
+            origin,
+        } => {
+            push_query(out, b"unpack", name)?;
+            push_operation(out, *rep, *count, ty, buffer, *origin)
+        }
+        Command::Give { session, bytes } => {
+            push_query(out, b"give", session)?;
+            push_hex(alloc, out, bytes)
+        }
         Command::Weights {
             leaf,
             vector,
@@ -152,7 +171,10 @@ fn push_fill(alloc: Global, out: &mut Vec<u8>, fill: &Fill) -> Result<(), AllocE
     match fill {
         Fill::Zero(len) => push_length(out, b"zero", *len),
         Fill::Count(len) => push_length(out, b"count", *len),
-        Fill::Hex(bytes) => push_hex(alloc, out, bytes),
+        Fill::Hex(bytes) => {
+            push_word(out, b"hex")?;
+            push_hex(alloc, out, bytes)
+        }
     }
 }
 
@@ -162,7 +184,6 @@ fn push_length(out: &mut Vec<u8>, word: &[u8], len: i32) -> Result<(), AllocErro
 }
 
 fn push_hex(alloc: Global, out: &mut Vec<u8>, bytes: &Bytes) -> Result<(), AllocError> {
-    push_word(out, b"hex")?;
     if bytes.as_slice().is_empty() {
         return push_word(out, b"-");
     }

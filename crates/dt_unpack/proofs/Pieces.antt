@@ -1,6 +1,6 @@
 -- What a piece does to a session, and two pieces one after the other.
 use Rattle.std.specs.Prelude.{◌≡◌, ℕ, ◌+◌, ◌-◌, ◌≤◌, cond, suc, Bool, List, [], ◌∷◌, ◌++◌, take, drop, length}
-use Rattle.std.proofs.Common.{inl, inr, refl, sym, ap, subst, ◌∙◌, arith, append_assoc, length-append, length-drop}
+use Rattle.std.proofs.Common.{inl, inr, refl, sym, ap, subst, ◌∙◌, arith, append-nil, append_assoc, length-append, length-drop}
 use Rattle.std.proofs.lemmas.Bool.Decides.{leb_tells}
 use Rattle.std.proofs.lemmas.List.{drop-drop, drop-map, drop_at, map-append, take-append-drop, take-map, take_at, length-take-le}
 use Rattle.std.proofs.lemmas.List.Sums.{sum_by-cons}
@@ -15,7 +15,7 @@ use Rattle.dt_map.specs.Typemap.{shift, shift_entry}
 use Rattle.dt_map.proofs.Copies.{total-append, total-shift}
 use Rattle.dt_map.proofs.Leading.{done_is_greatest}
 use Rattle.dt_rows.proofs.Joined.{take_further}
-use Rattle.dt_rows.proofs.SettingRows.{set_append, two_pieces}
+use Rattle.dt_rows.proofs.SettingRows.{drop_none, set_append, two_pieces}
 use Rattle.dt_unpack.specs.Session.{Session, total_of, complete, complete_with, completed, after, buffer_after, IsBetween}
 
 -- where a session is between elements, those before are complete
@@ -157,7 +157,7 @@ module _ (s : Session) (before rest : List Entry) (b : IsBetween s before rest) 
   complete_both : complete_with middle q ≡ complete_with s (p ++ q)
   complete_both = ap (done s.rep s.elements) given_both
 
-  completed_both : completed s (p ++ q) ≡ completed s p ++ completed middle q
+  pub completed_both : completed s (p ++ q) ≡ completed s p ++ completed middle q
   completed_both =
       let f : ℕ = complete s in
       let g : ℕ = complete_with s p in
@@ -169,7 +169,7 @@ module _ (s : Session) (before rest : List Entry) (b : IsBetween s before rest) 
       ∙ ap (λ m. completed s p ++ take (k - g) (drop m s.elements)) there
 
   -- the images of what the first completes are there
-  enough : total s.rep (completed s p) ≤ length (s.held ++ p)
+  pub enough : total s.rep (completed s p) ≤ length (s.held ++ p)
   enough =
       let fits = (done_is_greatest s.rep s.elements (s.given + length p)).1 in
       let bytes = total_parts s before rest b p in
@@ -245,3 +245,33 @@ between_any s before rest b piece fits =
         within = subst (λ h. AreHeld s.rep h back) (sym left) (held_at s.rep s.elements (s.given + length piece) fits);
       },
     )
+
+-- no bytes complete nothing, and leave session and buffer as they are
+pub completed_nothing : (s : Session) → completed s [] ≡ []
+completed_nothing s =
+    let same : s.given + 0 ≡ s.given = omega arith in
+    let none : complete_with s [] - complete s ≡ 0 =
+    ap (λ n. done s.rep s.elements n - complete s) same ∙ (let f : ℕ = complete s in let gone : f - f ≡ 0 = omega arith in gone) in
+    ap (λ n. take n (drop (complete s) s.elements)) none
+
+pub after_nothing : (s : Session) → after s [] ≡ s
+after_nothing s =
+    let same : s.given + 0 ≡ s.given = omega arith in
+    let held : drop (total s.rep (completed s [])) (s.held ++ []) ≡ s.held =
+    ap (λ es. drop (total s.rep es) (s.held ++ [])) (completed_nothing s) ∙ drop_none (s.held ++ []) ∙ append-nil s.held in
+    ap (λ n. (let t : Session = record s { given = n; held = drop (total s.rep (completed s [])) (s.held ++ []) } in t)) same
+    ∙ ap (λ h. (let t : Session = record s { held = h } in t)) held
+
+pub buffer_nothing : (s : Session) (buffer : List ℕ) → buffer_after s buffer [] ≡ buffer
+buffer_nothing s buffer = set_completed s buffer [] ∙ ap (λ es. set_each s.rep (shift s.origin es) buffer (s.held ++ [])) (completed_nothing s)
+
+-- no more bytes were given than there are
+held_within : (rep : Rep) (h : ℕ) (rest : List Entry) → AreHeld rep h rest → h ≤ total rep rest
+held_within rep h [] held = omega (arith, held)
+held_within rep h (e ∷ rest) held = omega (arith, held, sum_by-cons (λ (f : Entry). packed_size rep f.kind) e rest)
+
+pub given_within : (s : Session) (before rest : List Entry) → IsBetween s before rest → s.given ≤ total_of s
+given_within s before rest b =
+    let all = ap (total s.rep) b.all in
+    let place = b.place in
+    omega (arith, all, place, total-append s.rep before rest, held_within s.rep (length s.held) rest b.within)

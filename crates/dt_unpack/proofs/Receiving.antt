@@ -17,16 +17,16 @@ use Rattle.dt_map.specs.declared.entry.Entry.{Entry}
 use Rattle.dt_map.specs.Elements.{are_inside, lies_inside, IsByteOf}
 use Rattle.dt_map.specs.Laws.{image_at}
 use Rattle.dt_map.specs.Packed.{bytes_at, packed, total}
-use Rattle.dt_map.specs.Setting.{done, set_each}
+use Rattle.dt_map.specs.Setting.{set_each}
 use Rattle.dt_map.specs.Typemap.{shift}
 use Rattle.dt_map.proofs.Copies.{total-shift}
 use Rattle.dt_map.proofs.Writing.{packed_has_total, setting_keeps_the_rest, setting_sets_each}
 use Rattle.dt_rows.proofs.InsideRows.{bounds_of_inside}
 use Rattle.dt_rows.proofs.SettingRows.{drop_none}
 use Rattle.dt_unpack.specs.Laws.{buffer_after_all, PiecesAreJoined, HaveRoom, ReceivedIsSent}
-use Rattle.dt_unpack.specs.Session.{Session, placed, total_of, complete, complete_with, completed, after, buffer_after, IsBetween, IsOpen}
+use Rattle.dt_unpack.specs.Session.{Session, placed, total_of, completed, after, buffer_after, IsBetween, IsOpen}
 use Rattle.dt_unpack.proofs.Opening.{packed_size-pos}
-use Rattle.dt_unpack.proofs.Pieces.{after_both, buffer_both, between_any, completes, set_completed}
+use Rattle.dt_unpack.proofs.Pieces.{after_both, buffer_both, buffer_nothing, between_any, completes, set_completed}
 
 pub pieces_are_joined : PiecesAreJoined
 pieces_are_joined s number buffer p q is = (after_both s is.before is.rest is.between p q, buffer_both s is.before is.rest is.between p q buffer)
@@ -34,13 +34,7 @@ pieces_are_joined s number buffer p q is = (after_both s is.before is.rest is.be
 -- pieces, one after another, do what they do joined
 all_joined : (s : Session) (before rest : List Entry) → IsBetween s before rest → (buffer : List ℕ) (pieces : List (List ℕ)) → s.given + length (flat_map (λ p. p) pieces) ≤ total_of s
     → buffer_after_all s buffer pieces ≡ buffer_after s buffer (flat_map (λ p. p) pieces)
-all_joined s before rest b buffer [] fits = sym (nothing_given s buffer)
-  where
-    nothing_given : (s : Session) (buffer : List ℕ) → buffer_after s buffer [] ≡ buffer
-    nothing_given s buffer =
-        let same : s.given + 0 ≡ s.given = omega arith in
-        let none : complete_with s [] - complete s ≡ 0 = ap (λ n. done s.rep s.elements n - complete s) same ∙ (let f : ℕ = complete s in let gone : f - f ≡ 0 = omega arith in gone) in
-        set_completed s buffer [] ∙ ap (λ n. set_each s.rep (shift s.origin (take n (drop (complete s) s.elements))) buffer (s.held ++ [])) none
+all_joined s before rest b buffer [] fits = sym (buffer_nothing s buffer)
 all_joined s before rest b buffer (p ∷ pieces) fits =
     let long = length-append p (flat_map (λ q. q) pieces) in
     let here = between_any s before rest b p (omega (arith, fits, long)) in
@@ -48,18 +42,18 @@ all_joined s before rest b buffer (p ∷ pieces) fits =
     ∙ buffer_both s before rest b p (flat_map (λ q. q) pieces) buffer
 
 -- an element that lies inside a buffer
-record Lies (len : ℕ) (e : Entry) : Type 0 where
-  starts : e.disp ≡ pos (nat_abs e.disp)
-  ends : nat_abs e.disp + native_size e.kind ≤ len
+pub record Lies (len : ℕ) (e : Entry) : Type 0 where
+  pub starts : e.disp ≡ pos (nat_abs e.disp)
+  pub ends : nat_abs e.disp + native_size e.kind ≤ len
 
-lies : (len : ℕ) (e : Entry) → lies_inside len e ≡ true → Lies len e
+pub lies : (len : ℕ) (e : Entry) → lies_inside len e ≡ true → Lies len e
 lies len e inside =
     let b = bounds_of_inside len e inside in
     let low = b.0 in
     let high = b.1 in
     record { starts = omega (arith, ints, low); ends = omega (arith, ints, low, high) }
 
-size_there : (buffer : List ℕ) (e : Entry) → Lies (length buffer) e → length (bytes_at buffer e) ≡ native_size e.kind
+pub size_there : (buffer : List ℕ) (e : Entry) → Lies (length buffer) e → length (bytes_at buffer e) ≡ native_size e.kind
 size_there buffer e l = let room = l.ends in length-take-le (native_size e.kind) (drop (nat_abs e.disp) buffer) (omega (arith, room, length-drop (nat_abs e.disp) buffer))
 
 lies_at : (buffer : List ℕ) (es : List Entry) → are_inside (length buffer) es ≡ true → (i : ℕ) (d : Entry) → i < length es → Lies (length buffer) (slice_index_or es i d)

@@ -3,6 +3,8 @@
 
 mod call;
 #[cfg(test)]
+mod law_rows;
+#[cfg(test)]
 mod rows;
 #[cfg(test)]
 mod session_rows;
@@ -11,6 +13,8 @@ mod status;
 mod tests;
 #[cfg(test)]
 mod tree_rows;
+#[cfg(test)]
+mod unpack_rows;
 
 use call::dtt;
 use dt_base::{StdSink, StdSource};

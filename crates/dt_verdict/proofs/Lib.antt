@@ -1,0 +1,16 @@
+pub mod Cutting
+pub mod Ends
+pub mod Entries
+pub mod Feedless
+pub mod LineGoods
+pub mod LineWords
+pub mod Naturals
+pub mod Refusals
+pub mod Signeds
+pub mod TextLines
+pub mod TreeLines
+pub mod ValueGoods
+pub mod ValueSteps
+pub mod Verdicts
+pub mod WholeAgain
+pub mod WholeGoods

@@ -1,0 +1,10 @@
+pub mod Cut
+pub mod Number
+pub mod Reading
+pub mod Lines
+pub mod Trees
+pub mod Values
+pub mod Whole
+pub mod Fault
+pub mod Verdict
+pub mod Laws

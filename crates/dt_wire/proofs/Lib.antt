@@ -1,0 +1,12 @@
+pub mod Erasing
+pub mod Forms
+pub mod Lefts
+pub mod Levels
+pub mod Made
+pub mod Numbers
+pub mod Prefixed
+pub mod Readers
+pub mod Refused
+pub mod Spells
+pub mod Splits
+pub mod Uniques

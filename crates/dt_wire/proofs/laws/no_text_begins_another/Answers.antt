@@ -1,0 +1,5 @@
+use Rattle.dt_wire.proofs.Uniques.{no_text_begins_another}
+use Rattle.dt_wire.proofs.laws.no_text_begins_another.Goals as goal
+
+pub returns : goal.returns
+returns c = no_text_begins_another
