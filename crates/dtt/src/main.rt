@@ -3,18 +3,12 @@
 
 mod call;
 #[cfg(test)]
-mod law_rows;
-#[cfg(test)]
-mod rows;
-#[cfg(test)]
-mod session_rows;
+mod limits;
 mod status;
 #[cfg(test)]
 mod tests;
 #[cfg(test)]
-mod tree_rows;
-#[cfg(test)]
-mod unpack_rows;
+mod totals;
 
 use call::dtt;
 use dt_base::{StdSink, StdSource};
