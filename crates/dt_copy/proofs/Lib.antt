@@ -1,0 +1,6 @@
+pub mod Alike
+pub mod Bytes
+pub mod Elements
+pub mod Given
+pub mod Opened
+pub mod Pieces
