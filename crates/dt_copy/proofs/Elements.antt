@@ -65,21 +65,21 @@ no_more_bytes (e ∷ es) (f ∷ fs) alike =
     let size : Entry → ℕ = λ g. packed_size Native g.kind in
     omega (arith, rest, same, sum_by-cons size e es, sum_by-cons size f fs)
 
-record Lies (len : ℕ) (e : Entry) : Type 0 where
-  starts : e.disp ≡ pos (nat_abs e.disp)
-  ends : nat_abs e.disp + native_size e.kind ≤ len
+pub record Lies (len : ℕ) (e : Entry) : Type 0 where
+  pub starts : e.disp ≡ pos (nat_abs e.disp)
+  pub ends : nat_abs e.disp + native_size e.kind ≤ len
 
 lies : (len : ℕ) (e : Entry) → lies_inside len e ≡ true → Lies len e
 lies len e inside =
     let bounds = bounds_of_inside len e inside in
     record { starts = omega (arith, ints, bounds.0); ends = omega (arith, ints, bounds.0, bounds.1) }
 
-inside_parts : (len : ℕ) (e : Entry) (es : List Entry) → are_inside len (e ∷ es) ≡ true → Lies len e × (are_inside len es ≡ true)
+pub inside_parts : (len : ℕ) (e : Entry) (es : List Entry) → are_inside len (e ∷ es) ≡ true → Lies len e × (are_inside len es ≡ true)
 inside_parts len e es inside =
     let parts = and_parts (lies_inside len e) (are_inside len es) inside in
     (lies len e parts.0, parts.1)
 
-length-bytes_at : (s : List ℕ) (e : Entry) → Lies (length s) e → length (bytes_at s e) ≡ native_size e.kind
+pub length-bytes_at : (s : List ℕ) (e : Entry) → Lies (length s) e → length (bytes_at s e) ≡ native_size e.kind
 length-bytes_at s e here =
     let room = here.ends in
     length-take-le (native_size e.kind) (drop (nat_abs e.disp) s) (omega (arith, room, length-drop (nat_abs e.disp) s))
@@ -121,7 +121,7 @@ copied_bytes (e ∷ es) (f ∷ fs) s t alike from to =
     ∙ copied_bytes es fs s (written t b bytes) parts.1 read.1 (ap (λ n. are_inside n fs) kept ∙ put.1)
 
 -- copying elements sets those of the target to the packed bytes
-copied_sets : (es fs : List Entry) (s t : List ℕ) → AreAlike es fs → are_inside (length s) es ≡ true
+pub copied_sets : (es fs : List Entry) (s t : List ℕ) → AreAlike es fs → are_inside (length s) es ≡ true
     → copied es fs s t ≡ set_each Native (take (length es) fs) t (packed Native es s)
 copied_sets [] fs s t alike from = refl
 copied_sets (e ∷ es) [] s t alike from = (let long = ap length alike in absurd (omega (arith, long)))

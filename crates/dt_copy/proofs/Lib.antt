@@ -4,3 +4,4 @@ pub mod Elements
 pub mod Given
 pub mod Opened
 pub mod Pieces
+pub mod Places
