@@ -16,6 +16,7 @@ const BYTES: [u8; 24] = [
 const OLD: u8 = 0xee;
 
 /// So many copies of a datatype, the first of which begins at the origin.
+#[derive(Clone, Copy)]
 struct Op<'a> {
     ty: &'a Datatype,
     count: u32,
