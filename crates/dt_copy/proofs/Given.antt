@@ -1,0 +1,205 @@
+-- What comes next of the bytes of elements, by the rows that a walk names.
+use Rattle.std.proofs.Common.{◌≡◌, ℕ, zero, suc, ◌+◌, ◌-◌, ◌*◌, ◌≤◌, ◌<◌, true, ℤ, pos, ◌+ℤ◌, ◌*ℤ◌, List, [], ◌∷◌, ◌++◌, map, take, drop, length, replicate, refl, sym, ap, subst, ◌∙◌, arith, append-nil, length-append, length-drop}
+use Rattle.std.specs.Prelude.{nat_abs}
+use Rattle.std.specs.List.{flat_map}
+use Rattle.std.proofs.lemmas.Bool.{and_parts}
+use Rattle.std.proofs.lemmas.Grind.{flat_map-append}
+use Rattle.std.proofs.lemmas.Int.{ints}
+use Rattle.std.proofs.lemmas.List.{take-append-le, drop-append-le, drop-replicate, length-replicate, take-replicate, replicate-append-replicate, map-append}
+use Rattle.std.proofs.lemmas.List.Folds.{list_all-append}
+use Rattle.std.proofs.Math.Seq.{drop-append-add}
+use Rattle.dt_cursor.specs.Walk.{Walk, AreNext, IsNext, one_row}
+use Rattle.dt_kinds.specs.declared.kind.Kind.{Kind}
+use Rattle.dt_kinds.specs.declared.kind.Kind.TheVariants.{Byte}
+use Rattle.dt_kinds.specs.declared.kind.Rep.{Rep}
+use Rattle.dt_kinds.specs.declared.kind.Rep.TheVariants.{Native}
+use Rattle.dt_kinds.specs.Kind.{native_size, packed_size}
+use Rattle.dt_map.specs.declared.entry.Entry.{Entry}
+use Rattle.dt_map.specs.Elements.{are_inside, lies_inside}
+use Rattle.dt_map.specs.Packed.{total}
+use Rattle.dt_map.specs.Typemap.{shift, shift_entry}
+use Rattle.dt_map.proofs.Copies.{total-append, total-shift}
+use Rattle.dt_map.proofs.Placings.{shift-append}
+use Rattle.dt_offsets.specs.Offsets.{below, row_offsets}
+use Rattle.dt_rows.specs.declared.rows.Rows.{Rows}
+use Rattle.dt_rows.specs.declared.rows.Run.{Run}
+use Rattle.dt_rows.specs.Pieces.{IsPiece}
+use Rattle.dt_rows.specs.Rows.{element_at, adjacent, elements_of_rows, bytes_in}
+use Rattle.dt_rows.proofs.InsideRows.{row_inside}
+use Rattle.dt_rows.proofs.Packing.{some_elements}
+use Rattle.dt_rows.proofs.Totals.{bytes_within, some_bytes, total_of_rows}
+use Rattle.dt_copy.specs.declared.side.Stretch.{Stretch}
+use Rattle.dt_copy.specs.declared.span.Span.{Span}
+use Rattle.dt_copy.specs.Side as side
+use Rattle.dt_copy.specs.Side.{Reader, IsNextSpan, IsNextStretch, bytes_of, kinds_of}
+use Rattle.dt_copy.proofs.Bytes.{adjacent_more, adjacent_parts, adjacent_cut, bytes_from}
+use Rattle.dt_copy.proofs.Elements.{length-all, length-bytes_of, length-kinds_of, bytes_sized, kinds_sized}
+
+inside-append : (len : ℕ) (es fs : List Entry) → are_inside len (es ++ fs) ≡ true → (are_inside len es ≡ true) × (are_inside len fs ≡ true)
+inside-append len es fs all = and_parts (are_inside len es) (are_inside len fs) (sym (list_all-append (lies_inside len) es fs) ∙ all)
+
+module _ (w : Walk) (r : Rows) (next : AreNext w r) (o : ℤ) where
+  abbrev before : List Entry
+  before = shift o next.before
+
+  abbrev here : List Entry
+  here = shift o (elements_of_rows r)
+
+  abbrev later : List Entry
+  later = shift o next.after
+
+  parts : shift o w.elements ≡ before ++ (here ++ later)
+  parts =
+      ap (shift o) next.all ∙ shift-append o next.before (elements_of_rows r ++ next.after)
+      ∙ ap (λ s. before ++ s) (shift-append o (elements_of_rows r) next.after)
+
+  -- rows that come next name bytes that are still to come
+  pub still_to_come : w.position + bytes_in r ≤ total w.rep w.elements
+  still_to_come =
+      let all = ap (total w.rep) next.all in
+      let sum = total-append w.rep next.before (elements_of_rows r ++ next.after) in
+      let more = total-append w.rep (elements_of_rows r) next.after in
+      let within = bytes_within w.rep r next.shape in
+      omega (arith, all, sum, more, within, next.place)
+
+  pub rows_inside : (len : ℕ) → are_inside len (shift o w.elements) ≡ true → are_inside len here ≡ true
+  rows_inside len inside =
+      (inside-append len here later (inside-append len before (here ++ later) (ap (are_inside len) (sym parts) ∙ inside)).1).0
+
+  -- of what the bytes of elements are, the rows name what comes next
+  module _ {A : Type 0} (g : Entry → List A) (sized : (e : Entry) → length (g e) ≡ native_size e.kind) (native : w.rep ≡ Native) where
+    pub next_of : take (bytes_in r) (drop w.position (flat_map g (shift o w.elements))) ≡ take (bytes_in r) (drop r.run.skip (flat_map g here))
+    next_of =
+        let a = flat_map g before in
+        let b = flat_map g here in
+        let c = flat_map g later in
+        let bytes : flat_map g (shift o w.elements) ≡ a ++ (b ++ c) =
+        ap (flat_map g) parts ∙ flat_map-append g before (here ++ later) ∙ ap (λ s. a ++ s) (flat_map-append g here later) in
+        let long = length-all g sized before ∙ total-shift Native o next.before ∙ ap (λ rep. total rep next.before) (sym native) in
+        let wide = length-all g sized here ∙ total-shift Native o (elements_of_rows r) ∙ ap (λ rep. total rep (elements_of_rows r)) (sym native) in
+        let within = bytes_within w.rep r next.shape in
+        let place : w.position ≡ length a + r.run.skip = omega (arith, next.place, long) in
+        ap (λ s. take (bytes_in r) (drop w.position s)) bytes
+        ∙ ap (λ n. take (bytes_in r) (drop n (a ++ (b ++ c)))) place
+        ∙ ap (take (bytes_in r)) (drop-append-add a (b ++ c) r.run.skip ∙ drop-append-le r.run.skip b c (omega (arith, wide, within)))
+        ∙ take-append-le (bytes_in r) (drop r.run.skip b) c (omega (arith, wide, within, length-drop r.run.skip b))
+
+-- all bytes that a walk goes by are those of its elements
+pub whole_bytes : (w : Walk) (o : ℤ) → w.rep ≡ Native → total w.rep w.elements ≡ length (bytes_of (shift o w.elements))
+whole_bytes w o native = ap (λ rep. total rep w.elements) native ∙ sym (total-shift Native o w.elements) ∙ sym (length-bytes_of (shift o w.elements))
+
+pub whole_kinds : (w : Walk) (o : ℤ) → w.rep ≡ Native → total w.rep w.elements ≡ length (kinds_of (shift o w.elements))
+whole_kinds w o native = ap (λ rep. total rep w.elements) native ∙ sym (total-shift Native o w.elements) ∙ sym (length-kinds_of (shift o w.elements))
+
+-- the kinds of rows
+kinds_of_places : (kind : Kind) (o : ℤ) (xs : List ℤ) → kinds_of (shift o (map (element_at kind) xs)) ≡ replicate (length xs * native_size kind) kind
+kinds_of_places kind o [] = (let none : 0 * native_size kind ≡ 0 = omega arith in ap (λ n. replicate n kind) (sym none))
+kinds_of_places kind o (x ∷ xs) =
+    let more : native_size kind + length xs * native_size kind ≡ suc (length xs) * native_size kind = omega arith in
+    ap (λ ks. replicate (native_size kind) kind ++ ks) (kinds_of_places kind o xs)
+    ∙ replicate-append-replicate (native_size kind) (length xs * native_size kind) kind ∙ ap (λ n. replicate n kind) more
+
+kinds_of_rows : (kind : Kind) (n : ℕ) (o : ℤ) (xs : List ℤ) → (m : ℕ) × (kinds_of (shift o (flat_map (adjacent kind n) xs)) ≡ replicate m kind)
+kinds_of_rows kind n o [] = (0, refl)
+kinds_of_rows kind n o (x ∷ xs) =
+    let rest = kinds_of_rows kind n o xs in
+    let places = row_offsets x n (pos (native_size kind)) in
+    let k = length places * native_size kind in (
+      k + rest.0,
+      ap kinds_of (shift-append o (adjacent kind n x) (flat_map (adjacent kind n) xs))
+          ∙ flat_map-append (λ e. replicate (native_size e.kind) e.kind) (shift o (adjacent kind n x)) (shift o (flat_map (adjacent kind n) xs))
+          ∙ ap (λ ks. ks ++ kinds_of (shift o (flat_map (adjacent kind n) xs))) (kinds_of_places kind o places)
+          ∙ ap (λ ks. replicate k kind ++ ks) rest.1
+          ∙ replicate-append-replicate k rest.0 kind,
+    )
+
+-- the bytes of a run
+bytes_of_run : (kind : Kind) (n : ℕ) (x o : ℤ) → bytes_of (shift o (adjacent kind n x)) ≡ bytes_from (n * native_size kind) (x +ℤ o)
+bytes_of_run kind zero x o = (let none : 0 * native_size kind ≡ 0 = omega arith in ap (λ n. bytes_from n (x +ℤ o)) (sym none))
+bytes_of_run kind (suc n) x o =
+    let s = native_size kind in
+    let more : n * s + s ≡ suc n * s = omega arith in
+    let y = x +ℤ (pos n *ℤ pos s) in
+    let place : y +ℤ o ≡ (x +ℤ o) +ℤ pos (n * s) = omega (arith, ints) in
+    ap (λ es. bytes_of (shift o es)) (adjacent_more kind n x)
+    ∙ ap bytes_of (shift-append o (adjacent kind n x) (element_at kind y ∷ []))
+    ∙ flat_map-append (λ e. adjacent Byte (native_size e.kind) e.disp) (shift o (adjacent kind n x)) (shift o (element_at kind y ∷ []))
+    ∙ ap (λ es. es ++ (bytes_from s (y +ℤ o) ++ [])) (bytes_of_run kind n x o)
+    ∙ ap (λ es. bytes_from (n * s) (x +ℤ o) ++ es) (append-nil (bytes_from s (y +ℤ o)) ∙ ap (bytes_from s) place)
+    ∙ sym (adjacent_parts (n * s) s (x +ℤ o)) ∙ ap (λ k. bytes_from k (x +ℤ o)) more
+
+module _ (w : Walk) (run : Run) (next : IsNext w run) (native : w.rep ≡ Native) (o : ℤ) (len : ℕ) (inside : are_inside len (shift o w.elements) ≡ true) where
+  abbrev size : ℕ
+  size = native_size run.kind
+
+  within : run.skip + run.bytes ≤ run.elements * size
+  within = subst (λ rep. run.skip + run.bytes ≤ run.elements * packed_size rep run.kind) native next.shape.run.within
+
+  -- a run that comes next lies in the buffer
+  pub run_inside : IsPiece len (run.skip + run.bytes) (run.disp +ℤ o)
+  run_inside =
+      let all = rows_inside w (one_row run) next o len inside in
+      let row = row_inside len (one_row run) o (run.disp +ℤ o) all (some_elements w.rep run next.shape.run) refl 0 (omega arith) in
+      let same : (run.disp +ℤ o) +ℤ (pos 0 *ℤ pos 0) ≡ run.disp +ℤ o = omega (arith, ints) in
+      let from = row.from in
+      let most = row.within in
+      let cut = within in
+      record { from = omega (arith, ints, from); within = omega (arith, ints, most, same, ap nat_abs same, cut) }
+
+  pub one_bytes : bytes_in (one_row run) ≡ run.bytes
+  one_bytes = omega arith
+
+  run_elements : elements_of_rows (one_row run) ≡ adjacent run.kind run.elements run.disp
+  run_elements =
+      let same : run.disp +ℤ (pos 0 *ℤ pos 0) ≡ run.disp = omega (arith, ints) in
+      append-nil (adjacent run.kind run.elements (run.disp +ℤ (pos 0 *ℤ pos 0))) ∙ ap (adjacent run.kind run.elements) same
+
+  -- and its bytes are the next ones
+  pub span_is_next : (start : ℕ) → start ≡ nat_abs (run.disp +ℤ o) + run.skip
+      → let r : Reader = record { elements = shift o w.elements; len = len; position = w.position } in
+      let s : Span = record { start = start; len = run.bytes } in IsNextSpan r s
+  span_is_next start is =
+      let here = run_inside in
+      let from = here.from in
+      let most = here.within in
+      let place : (run.disp +ℤ o) +ℤ pos run.skip ≡ pos start = omega (arith, ints, is, from) in
+      let cut = within in
+      let bytes : List Entry → List Entry = bytes_of in
+      record {
+        some = next.shape.run.some;
+        inside = omega (arith, is, most);
+        bytes =
+            ap (λ n. take n (drop w.position (bytes_of (shift o w.elements)))) (sym one_bytes)
+            ∙ next_of w (one_row run) next o (λ e. adjacent Byte (native_size e.kind) e.disp) bytes_sized native
+            ∙ ap (λ n. take n (drop run.skip (bytes_of (shift o (elements_of_rows (one_row run)))))) one_bytes
+            ∙ ap (λ es. take run.bytes (drop run.skip (bytes_of (shift o es)))) run_elements
+            ∙ ap (λ es. take run.bytes (drop run.skip es)) (bytes_of_run run.kind run.elements run.disp o)
+            ∙ adjacent_cut (run.elements * size) run.skip run.bytes (run.disp +ℤ o) cut
+            ∙ ap (bytes_from run.bytes) place;
+        within =
+            (let all = length-bytes_of (shift o w.elements) ∙ total-shift Native o w.elements ∙ ap (λ rep. total rep w.elements) (sym native) in
+            let come = still_to_come w (one_row run) next o in
+            let one = one_bytes in
+            omega (arith, all, come, one));
+      }
+
+-- the kinds of rows are the next ones
+pub stretch_is_next : (w : Walk) (r : Rows) (next : AreNext w r) (native : w.rep ≡ Native) (o : ℤ) (len : ℕ)
+    → let q : Reader = record { elements = shift o w.elements; len = len; position = w.position } in
+    let s : Stretch = record { kind = r.run.kind; bytes = bytes_in r } in IsNextStretch q s
+stretch_is_next w r next native o len =
+    let all = length-kinds_of (shift o w.elements) ∙ total-shift Native o w.elements ∙ ap (λ rep. total rep w.elements) (sym native) in
+    let come = still_to_come w r next o in
+    let rows = kinds_of_rows r.run.kind r.run.elements o (row_offsets r.run.disp r.rows r.step) in
+    let many : rows.0 ≡ total w.rep (elements_of_rows r) =
+    sym (length-replicate rows.0 r.run.kind) ∙ ap length (sym rows.1) ∙ length-kinds_of (shift o (elements_of_rows r)) ∙ total-shift Native o (elements_of_rows r) ∙ ap (λ rep. total rep (elements_of_rows r)) (sym native) in
+    let within = bytes_within w.rep r next.shape in
+    record {
+      some = some_bytes w.rep r next.shape;
+      kinds =
+          next_of w r next o (λ e. replicate (native_size e.kind) e.kind) kinds_sized native
+          ∙ ap (λ ks. take (bytes_in r) (drop r.run.skip ks)) rows.1
+          ∙ ap (take (bytes_in r)) (drop-replicate r.run.skip rows.0 r.run.kind)
+          ∙ take-replicate (bytes_in r) (rows.0 - r.run.skip) r.run.kind (omega (arith, many, within));
+      within = omega (arith, all, come);
+    }
