@@ -6,7 +6,7 @@ use Rattle.dt_form.specs.declared.form.FormOf.{FormOf}
 use Rattle.dt_form.specs.declared.form.FormOf.TheVariants as form
 use Rattle.dt_type.specs.declared.datatype.Seen.{Seen}
 use Rattle.dt_wire.specs.declared.args.Arguments.{Arguments}
-use Rattle.dt_wire.specs.declared.args.Arguments.TheVariants.{Contiguous, Vector, Hvector, Indexed, Hindexed, IndexedBlock, HindexedBlock, Subarray, Darray, Resized}
+use Rattle.dt_wire.specs.declared.args.Arguments.TheVariants.{Dup, Contiguous, Vector, Hvector, Indexed, Hindexed, IndexedBlock, HindexedBlock, Subarray, Darray, Resized}
 use Rattle.dt_wire.specs.Building.{with_old, arguments_at, in_two}
 use Rattle.dt_wire.specs.Reading.{Bytes, Reader, bind, on_ok, ◌>>=◌, give, item_at, map_at, pair_at, int_at, address_at, counted_at, int_block_at, addr_block_at, sub_dim_at, dist_dim_at, orders, behind}
 
@@ -20,6 +20,12 @@ two x y = (x, y)
 second : {A B C : Type 0} (x : A) (f : Result (B × Bytes) Bytes) (h : A → B → C) → on_ok (on_ok f (λ y. give (two x y))) (λ (p : A × B). give (h p.0 p.1)) ≡ on_ok f (λ y. give (h x y))
 second x (Ok y) h = refl
 second x (Err left) h = refl
+
+-- those that have one old type
+abbrev pub HasOne : Combiner → Type 0
+HasOne tag.Named = ⊥
+HasOne tag.Struct = ⊥
+HasOne c = Unit {0}
 
 module _ (old : Reader Seen) where
   with_same : {A : Type 0} (x : A) (g : A → Arguments) (h : A → Seen → FormOf Seen) → ((y : A) (t : Seen) → h y t ≡ with_old (g y) t) → (f : Result (Seen × Bytes) Bytes)
@@ -52,46 +58,50 @@ module _ (old : Reader Seen) where
   unfolding bind map_at pair_at
   first r s q g h same bytes = first_by (r bytes) s q g h same
 
-  abbrev Split : ℕ → Combiner → Type 0
+  abbrev pub Split : ℕ → Combiner → Type 0
   Split levels c = Alike (behind levels old c) (in_two (arguments_at c) old)
 
-  pub split_contiguous : (levels : ℕ) → Split levels tag.Contiguous
+  split_dup : (levels : ℕ) → Split levels tag.Dup
+  unfolding map_at bind
+  split_dup levels bytes = refl
+
+  split_contiguous : (levels : ℕ) → Split levels tag.Contiguous
   split_contiguous levels = last int_at (λ n. Contiguous n) (λ n t. form.Contiguous n t) (λ n t. refl)
 
-  pub split_vector : (levels : ℕ) → Split levels tag.Vector
+  split_vector : (levels : ℕ) → Split levels tag.Vector
   split_vector levels =
       first int_at (pair_at int_at (pair_at int_at old)) (pair_at int_at int_at) (λ x y. Vector x y.0 y.1) (λ x y. form.Vector x y.0 y.1.0 y.1.1) (λ x.
       first int_at (pair_at int_at old) int_at (λ y z. Vector x y z) (λ y z. form.Vector x y z.0 z.1) (λ y.
       last int_at (λ z. Vector x y z) (λ z t. form.Vector x y z t) (λ z t. refl)))
 
-  pub split_hvector : (levels : ℕ) → Split levels tag.Hvector
+  split_hvector : (levels : ℕ) → Split levels tag.Hvector
   split_hvector levels =
       first int_at (pair_at int_at (pair_at address_at old)) (pair_at int_at address_at) (λ x y. Hvector x y.0 y.1) (λ x y. form.Hvector x y.0 y.1.0 y.1.1) (λ x.
       first int_at (pair_at address_at old) address_at (λ y z. Hvector x y z) (λ y z. form.Hvector x y z.0 z.1) (λ y.
       last address_at (λ z. Hvector x y z) (λ z t. form.Hvector x y z t) (λ z t. refl)))
 
-  pub split_indexed : (levels : ℕ) → Split levels tag.Indexed
+  split_indexed : (levels : ℕ) → Split levels tag.Indexed
   split_indexed levels = last (counted_at int_block_at) (λ xs. Indexed xs) (λ xs t. form.Indexed xs t) (λ xs t. refl)
 
-  pub split_hindexed : (levels : ℕ) → Split levels tag.Hindexed
+  split_hindexed : (levels : ℕ) → Split levels tag.Hindexed
   split_hindexed levels = last (counted_at addr_block_at) (λ xs. Hindexed xs) (λ xs t. form.Hindexed xs t) (λ xs t. refl)
 
-  pub split_indexed_block : (levels : ℕ) → Split levels tag.IndexedBlock
+  split_indexed_block : (levels : ℕ) → Split levels tag.IndexedBlock
   split_indexed_block levels =
       first int_at (pair_at (counted_at int_at) old) (counted_at int_at) (λ x xs. IndexedBlock x xs) (λ x y. form.IndexedBlock x y.0 y.1) (λ x.
       last (counted_at int_at) (λ xs. IndexedBlock x xs) (λ xs t. form.IndexedBlock x xs t) (λ xs t. refl))
 
-  pub split_hindexed_block : (levels : ℕ) → Split levels tag.HindexedBlock
+  split_hindexed_block : (levels : ℕ) → Split levels tag.HindexedBlock
   split_hindexed_block levels =
       first int_at (pair_at (counted_at address_at) old) (counted_at address_at) (λ x xs. HindexedBlock x xs) (λ x y. form.HindexedBlock x y.0 y.1) (λ x.
       last (counted_at address_at) (λ xs. HindexedBlock x xs) (λ xs t. form.HindexedBlock x xs t) (λ xs t. refl))
 
-  pub split_subarray : (levels : ℕ) → Split levels tag.Subarray
+  split_subarray : (levels : ℕ) → Split levels tag.Subarray
   split_subarray levels =
       first (item_at (slice_get orders)) (pair_at (counted_at sub_dim_at) old) (counted_at sub_dim_at) (λ x xs. Subarray xs x) (λ x y. form.Subarray y.0 x y.1) (λ x.
       last (counted_at sub_dim_at) (λ xs. Subarray xs x) (λ xs t. form.Subarray xs x t) (λ xs t. refl))
 
-  pub split_darray : (levels : ℕ) → Split levels tag.Darray
+  split_darray : (levels : ℕ) → Split levels tag.Darray
   split_darray levels =
       first int_at (pair_at int_at (pair_at (item_at (slice_get orders)) (pair_at (counted_at dist_dim_at) old))) (pair_at int_at (pair_at (item_at (slice_get orders)) (counted_at dist_dim_at)))
       (λ s y. Darray s y.0 y.1.1 y.1.0) (λ s y. form.Darray s y.0 y.1.1.0 y.1.0 y.1.1.1) (λ s.
@@ -100,7 +110,22 @@ module _ (old : Reader Seen) where
       first (item_at (slice_get orders)) (pair_at (counted_at dist_dim_at) old) (counted_at dist_dim_at) (λ o xs. Darray s r xs o) (λ o y. form.Darray s r y.0 o y.1) (λ o.
       last (counted_at dist_dim_at) (λ xs. Darray s r xs o) (λ xs t. form.Darray s r xs o t) (λ xs t. refl))))
 
-  pub split_resized : (levels : ℕ) → Split levels tag.Resized
+  split_resized : (levels : ℕ) → Split levels tag.Resized
   split_resized levels =
       first address_at (pair_at address_at old) address_at (λ x y. Resized x y) (λ x y. form.Resized x y.0 y.1) (λ x.
       last address_at (λ y. Resized x y) (λ y t. form.Resized x y t) (λ y t. refl))
+
+  pub split : (levels : ℕ) (c : Combiner) → HasOne c → Split levels c
+  split levels tag.Named one = absurd one
+  split levels tag.Dup one = split_dup levels
+  split levels tag.Contiguous one = split_contiguous levels
+  split levels tag.Vector one = split_vector levels
+  split levels tag.Hvector one = split_hvector levels
+  split levels tag.Indexed one = split_indexed levels
+  split levels tag.Hindexed one = split_hindexed levels
+  split levels tag.IndexedBlock one = split_indexed_block levels
+  split levels tag.HindexedBlock one = split_hindexed_block levels
+  split levels tag.Struct one = absurd one
+  split levels tag.Subarray one = split_subarray levels
+  split levels tag.Darray one = split_darray levels
+  split levels tag.Resized one = split_resized levels
