@@ -1,13 +1,15 @@
 -- datatypes by their tags, and behind their four bytes
-use Rattle.std.proofs.Common.{◌≡◌, ◌⊎◌, inl, inr, ℕ, zero, suc, [], ◌∷◌, ◌++◌, Result, Ok, Err, IsErr, refl, sym, ap, subst, ◌∙◌, append-nil, arith, absurd}
+use Rattle.std.proofs.Common.{◌≡◌, ◌⊎◌, inl, inr, ℕ, zero, suc, List, [], ◌∷◌, ◌++◌, Result, Ok, Err, IsErr, refl, sym, ap, subst, ◌∙◌, append-nil, arith}
 use Rattle.std.specs.List.{AllByRecursion}
 use Rattle.dt_form.specs.declared.envelope.Combiner.{Combiner}
 use Rattle.dt_form.specs.declared.form.FormOf.{FormOf}
+use Rattle.dt_form.specs.declared.form.FormOf.TheVariants as form
+use Rattle.dt_form.specs.declared.form.PartOf.{PartOf}
 use Rattle.dt_type.specs.Form.{result_of}
 use Rattle.dt_type.specs.declared.datatype.Seen.{Seen}
 use Rattle.dt_type.specs.declared.fault.CtorFault.{CtorFault}
 use Rattle.dt_type.specs.declared.fault.CtorFault.TheVariants as ctor
-use Rattle.dt_wire.specs.Building.{with_old, in_two, type_at, calls_of, IsBuilt, IsFirstIn, IsReadAs}
+use Rattle.dt_wire.specs.Building.{with_old, in_two, type_at, calls_of, calls_among, IsBuilt, IsFirstIn, IsReadAs}
 use Rattle.dt_wire.specs.Fault.{IsText}
 use Rattle.dt_wire.specs.Given.{Takes}
 use Rattle.dt_wire.specs.Import.{IsFirstCause, IsImported, IsRead, IsRefused, IsTaken, IsWhy, calls, told}
@@ -18,7 +20,7 @@ use Rattle.dt_wire.specs.declared.stop.Stop.{Stop}
 use Rattle.dt_wire.specs.declared.stop.Stop.TheVariants.{Bad, Refused}
 use Rattle.dt_wire.proofs.Erasing.{pass_magic, pass_zeros}
 use Rattle.dt_wire.proofs.Lefts.{read_by, stuck_at}
-use Rattle.dt_wire.proofs.Made.{Begins, calls_result, calls_with_old, is_error, bind_wrong, map_wrong, map_same, stop_map}
+use Rattle.dt_wire.proofs.Made.{calls_result, calls_with_old, calls_of_parts, is_error, bind_wrong, map_wrong, map_same, ok_same, stop_map}
 use Rattle.dt_wire.proofs.Readers.{bind_ok, bind_err}
 use Rattle.dt_wire.proofs.Refused.{text_again}
 use Rattle.dt_wire.proofs.Spells.{map_again}
@@ -36,9 +38,6 @@ module _ (args : Reader Arguments) (old : Reader Seen) (bytes : Bytes) where
   arguments_stop levels Bad h = no_arguments h
   arguments_stop levels (Refused fault) h = inl h
 
-begins_old : (levels : ℕ) (a : Arguments) (t : Seen) → Begins (calls_of levels t) (calls_of (suc levels) (result_of (with_old a t)))
-begins_old levels a t = (with_old a t ∷ [], calls_result (suc levels) (with_old a t) ∙ calls_with_old levels a t)
-
 pub old_stop : (levels : ℕ) (args : Reader Arguments) (old : Reader Seen) (a : Arguments) (bytes after : Bytes) (stop : Stop) → args bytes ≡ Ok (a, after) → IsBuilt (calls_of levels) (old after) (Err stop)
     → IsBuilt (calls_of (suc levels)) (map_at result_of (in_two args old) bytes) (Err stop)
 old_stop levels args old a bytes after stop e h =
@@ -51,6 +50,18 @@ pub both_read : (args : Reader Arguments) (old : Reader Seen) (a : Arguments) (b
     → map_at result_of (in_two args old) bytes ≡ Ok (result_of (with_old a t), rest)
 both_read args old a bytes after rest t e f =
     behind_arguments args old bytes a after e ∙ map_again result_of (map_at (with_old a) old) after rest (with_old a t) (map_again (with_old a) old after rest t f)
+
+-- parts, and then their struct
+pub all_parts_stop : (levels : ℕ) (r : Reader (List (PartOf Seen))) (bytes : Bytes) (stop : Stop) → IsBuilt (calls_among levels) (r bytes) (Err stop)
+    → IsBuilt (calls_of (suc levels)) (map_at result_of (map_at (λ ps. form.Struct ps) r) bytes) (Err stop)
+all_parts_stop levels r bytes stop h =
+    stop_map (λ (f : FormOf Seen). calls (suc levels) f) (calls_of (suc levels)) result_of (map_at (λ ps. form.Struct ps) r) bytes stop
+    (λ f. ([], calls_result (suc levels) f ∙ sym (append-nil (calls (suc levels) f))))
+    (stop_map (calls_among levels) (λ (f : FormOf Seen). calls (suc levels) f) (λ ps. form.Struct ps) r bytes stop (λ ps. (form.Struct ps ∷ [], calls_of_parts levels ps)) h)
+
+pub all_parts_read : (r : Reader (List (PartOf Seen))) (bytes rest : Bytes) (parts : List (PartOf Seen)) → r bytes ≡ Ok (parts, rest)
+    → map_at result_of (map_at (λ ps. form.Struct ps) r) bytes ≡ Ok (result_of (form.Struct parts), rest)
+all_parts_read r bytes rest parts e = map_again result_of (map_at (λ ps. form.Struct ps) r) bytes rest (form.Struct parts) (map_again (λ ps. form.Struct ps) r bytes rest parts e)
 
 -- a tag
 pub no_level : (levels : ℕ) (bytes : Bytes) → levels ≡ zero → IsErr (type_at levels bytes)
@@ -116,8 +127,7 @@ whole_text bytes h =
 pub text_made : (bytes rest : Bytes) (t : Seen) → IsText bytes → IsReadAs (calls_of 64) (map_at result_of text_at bytes) t rest → IsImported bytes t
 text_made bytes rest t h read =
     let whole = whole_text bytes h in
-    let is = read.is in
-    let same : t ≡ result_of h.0 = cc (whole, is) in
+    let same : t ≡ result_of h.0 = (ok_same (map_at result_of text_at bytes) t (result_of h.0) rest [] read.is whole).0 in
     record {
       form = h.0;
       text = h.1;

@@ -1,7 +1,6 @@
 -- datatypes made of what was read
 use Rattle.std.proofs.Common.{◌≡◌, ◌⊎◌, inl, inr, ℕ, suc, List, [], ◌∷◌, ◌++◌, map, flat_map, Result, Ok, Err, IsErr, refl, sym, ap, subst, ◌∙◌, append-nil, slice_get}
 use Rattle.std.specs.List.{AllByRecursion}
-use Rattle.std.proofs.lemmas.List.{flat_map-map}
 use Rattle.dt_kinds.specs.declared.kind.Kind.{Kind}
 use Rattle.dt_form.specs.Form.{olds_of}
 use Rattle.dt_form.specs.declared.form.FormOf.{FormOf}
@@ -85,12 +84,18 @@ pub map_wrong : {A B : Type 0} (g : A → B) (r : Reader A) (bytes : Bytes) → 
 unfolding map_at
 map_wrong g r bytes h = bind_wrong r (λ x. give (g x)) bytes h
 
+-- what two readings of the same bytes give
+pub ok_same : {A : Type 0} (e : Result (A × Bytes) Bytes) (x y : A) (u v : Bytes) → e ≡ Ok (x, u) → e ≡ Ok (y, v) → (x ≡ y) × (u ≡ v)
+ok_same {A} e x y u v h k =
+    let same : ◌≡◌ {A = A × Bytes} (x, u) (y, v) = cc (h, k) in
+    (ap (λ (p : A × Bytes). p.0) same, ap (λ (p : A × Bytes). p.1) same)
+
 pub map_read : {A B : Type 0} (g : A → B) (r : Reader A) (bytes rest : Bytes) (y : B) → map_at g r bytes ≡ Ok (y, rest) → (x : A) × (r bytes ≡ Ok (x, rest)) × (g x ≡ y)
 unfolding map_at bind
 map_read {A} {B} g r bytes rest y e =
     let h = on_ok-ok (r bytes) (λ x. give (g x)) (y, rest) e in
-    let same : ◌≡◌ {A = B × Bytes} (g h.0, h.1) (y, rest) = cc (h.3) in
-    (h.0, h.2 ∙ ap (λ (t : Bytes). Ok (h.0, t)) (ap (λ (p : B × Bytes). p.1) same), ap (λ (p : B × Bytes). p.0) same)
+    let same = ok_same (give (g h.0) h.1) (g h.0) y h.1 rest refl h.3 in
+    (h.0, h.2 ∙ ap (λ (t : Bytes). Ok (h.0, t)) same.1, same.0)
 
 pub map_same : {A B : Type 0} (g : A → B) (r s : Reader A) (bytes after : Bytes) → r bytes ≡ s after → map_at g r bytes ≡ map_at g s after
 unfolding map_at bind
@@ -129,7 +134,7 @@ module _ (levels : ℕ) (read : Result (Seen × Bytes) Bytes) (f : FormOf Seen) 
   pub last_refused : (fault : CtorFault) → IsCause f fault → IsFirstIn (calls_of (suc levels)) read fault
   last_refused fault cause =
       inr (λ t other e.
-      let same : t ≡ result_of f = cc (e, is) in
+      let same : t ≡ result_of f = (ok_same read t (result_of f) other rest e is).0 in
       subst (λ u. IsFirstCause (calls_of (suc levels) u) fault) (sym same)
       (subst (λ fs. IsFirstCause fs fault) (sym all_calls) (first_back inner (f ∷ []) fault all (inl cause))))
 

@@ -1,19 +1,20 @@
 -- the parts of a struct, made one after another
 use Rattle.std.proofs.Common.{◌≡◌, ◌⊎◌, inl, inr, ℕ, suc, ℤ, ◌+◌, ◌-◌, ◌<◌, List, [], ◌∷◌, ◌++◌, flat_map, Result, Ok, Err, IsErr, refl, sym, ap, subst, ◌∙◌, append-nil, arith}
 use Rattle.std.specs.List.{AllByRecursion}
-use Rattle.std.proofs.lemmas.List.{flat_map-append}
+use Rattle.std.proofs.lemmas.Grind.{flat_map-append}
 use Rattle.dt_form.specs.declared.form.FormOf.{FormOf}
 use Rattle.dt_form.specs.declared.form.PartOf.{PartOf}
 use Rattle.dt_type.specs.declared.datatype.Seen.{Seen}
 use Rattle.dt_type.specs.declared.fault.CtorFault.{CtorFault}
-use Rattle.dt_wire.specs.Building.{calls_in, calls_among, IsBuilt, IsFirstIn}
+use Rattle.dt_wire.specs.Building.{calls_of, calls_in, calls_among, IsBuilt, IsFirstIn}
 use Rattle.dt_wire.specs.Import.{IsFirstCause, IsTaken}
 use Rattle.dt_wire.specs.Reading.{Bytes, Reader, bind, on_ok, give, map_at, pair_at, list_at, int_at, address_at, part_at}
 use Rattle.dt_wire.specs.declared.stop.Stop.{Stop}
 use Rattle.dt_wire.specs.declared.stop.Stop.TheVariants.{Bad, Refused}
-use Rattle.dt_wire.proofs.Made.{first_front, first_back, taken_both, bind_wrong, map_wrong}
+use Rattle.dt_wire.proofs.Made.{first_front, first_back, taken_both, bind_wrong, map_wrong, ok_same, stop_map}
 use Rattle.dt_wire.proofs.Prefixed.{prefixed, list_stop}
 use Rattle.dt_wire.proofs.Readers.{on_ok-ok, bind_ok}
+use Rattle.dt_wire.proofs.Spells.{map_again}
 
 -- one part
 pair_wrong : {A B : Type 0} (r : Reader A) (s : Reader B) (bytes : Bytes) → IsErr (r bytes) → IsErr (pair_at r s bytes)
@@ -48,6 +49,16 @@ module _ (old : Reader Seen) (bytes : Bytes) where
       ∙ (ap (λ v. on_ok (on_ok (on_ok v (λ x. bind old (λ y. give (x, y)))) (λ y. give (len, y))) (λ (x : ℤ × (ℤ × Seen)). give (part_of x.0 x.1.0 x.1.1))) f
       ∙ in_three len disp (old rest))
 
+  pub part_stop : (levels : ℕ) (after rest : Bytes) (len disp : ℤ) (stop : Stop) → int_at bytes ≡ Ok (len, after) → address_at after ≡ Ok (disp, rest)
+      → IsBuilt (calls_of levels) (old rest) (Err stop) → IsBuilt (calls_in levels) (part_at old bytes) (Err stop)
+  part_stop levels after rest len disp stop e f h =
+      subst (λ v. IsBuilt (calls_in levels) v (Err stop)) (sym (part_read after rest len disp e f))
+      (stop_map (calls_of levels) (calls_in levels) (part_of len disp) old rest stop (λ t. ([], sym (append-nil (calls_of levels t)))) h)
+
+  pub part_made : (after rest behind : Bytes) (len disp : ℤ) (t : Seen) → int_at bytes ≡ Ok (len, after) → address_at after ≡ Ok (disp, rest) → old rest ≡ Ok (t, behind)
+      → part_at old bytes ≡ Ok (part_of len disp t, behind)
+  part_made after rest behind len disp t e f g = part_read after rest len disp e f ∙ map_again (part_of len disp) old rest behind t g
+
 -- what is read behind some parts
 pub err_is : {A B : Type 0} (e : Result A B) → IsErr e → (left : B) × (e ≡ Err left)
 err_is (Ok x) h = cc h
@@ -55,8 +66,8 @@ err_is (Err left) h = (left, refl)
 
 prefixed_read : {A : Type 0} (xs ys : List A) (e : Result (List A × Bytes) Bytes) (rest : Bytes) → prefixed xs e ≡ Ok (ys, rest) → (more : List A) × (e ≡ Ok (more, rest)) × (ys ≡ xs ++ more)
 prefixed_read {A} xs ys (Ok y) rest h =
-    let same : ◌≡◌ {A = List A × Bytes} (xs ++ y.0, y.1) (ys, rest) = cc h in
-    (y.0, ap (λ (p : List A × Bytes). Ok (y.0, p.1)) same, sym (ap (λ (p : List A × Bytes). p.0) same))
+    let same = ok_same (prefixed xs (Ok y)) (xs ++ y.0) ys y.1 rest refl h in
+    (y.0, ap (λ (t : Bytes). Ok (y.0, t)) same.1, sym same.0)
 prefixed_read xs ys (Err left) rest h = cc h
 
 list_read : {A : Type 0} (r : Reader A) (k : ℕ) (bytes rest : Bytes) (ys : List A) → list_at r (suc k) bytes ≡ Ok (ys, rest) →
@@ -65,8 +76,7 @@ unfolding bind
 list_read {A} r k bytes rest ys e =
     let h = on_ok-ok (r bytes) (λ x. bind (list_at r k) (λ more. give (x ∷ more))) (ys, rest) e in
     let g = on_ok-ok (list_at r k h.1) (λ more. give (h.0 ∷ more)) (ys, rest) h.3 in
-    let same : ◌≡◌ {A = List A × Bytes} (h.0 ∷ g.0, g.1) (ys, rest) = cc (g.3) in
-    (h.0, h.1, g.0, h.2, sym (ap (λ (p : List A × Bytes). p.0) same))
+    (h.0, h.1, g.0, h.2, sym (ok_same (give (h.0 ∷ g.0) g.1) (h.0 ∷ g.0) ys g.1 rest refl g.3).0)
 
 module _ (levels : ℕ) (r : Reader (PartOf Seen)) (n i : ℕ) (rest : Bytes) (parts : List (PartOf Seen)) where
   among_more : (p : PartOf Seen) (more : List (PartOf Seen)) → calls_among levels (parts ++ p ∷ more) ≡ calls_among levels parts ++ (calls_in levels p ++ calls_among levels more)

@@ -1,5 +1,5 @@
 -- a form is read as the arguments of its constructor, and then its old type
-use Rattle.std.proofs.Common.{◌≡◌, ℕ, Result, Ok, Err, refl, sym, ap, ◌∙◌, slice_get}
+use Rattle.std.proofs.Common.{◌≡◌, ◌≢◌, ℕ, Result, Ok, Err, refl, sym, ap, ◌∙◌, slice_get}
 use Rattle.dt_form.specs.declared.envelope.Combiner.{Combiner}
 use Rattle.dt_form.specs.declared.envelope.Combiner.TheVariants as tag
 use Rattle.dt_form.specs.declared.form.FormOf.{FormOf}
@@ -20,12 +20,6 @@ two x y = (x, y)
 second : {A B C : Type 0} (x : A) (f : Result (B × Bytes) Bytes) (h : A → B → C) → on_ok (on_ok f (λ y. give (two x y))) (λ (p : A × B). give (h p.0 p.1)) ≡ on_ok f (λ y. give (h x y))
 second x (Ok y) h = refl
 second x (Err left) h = refl
-
--- those that have one old type
-abbrev pub HasOne : Combiner → Type 0
-HasOne tag.Named = ⊥
-HasOne tag.Struct = ⊥
-HasOne c = Unit {0}
 
 module _ (old : Reader Seen) where
   with_same : {A : Type 0} (x : A) (g : A → Arguments) (h : A → Seen → FormOf Seen) → ((y : A) (t : Seen) → h y t ≡ with_old (g y) t) → (f : Result (Seen × Bytes) Bytes)
@@ -115,17 +109,18 @@ module _ (old : Reader Seen) where
       first address_at (pair_at address_at old) address_at (λ x y. Resized x y) (λ x y. form.Resized x y.0 y.1) (λ x.
       last address_at (λ y. Resized x y) (λ y t. form.Resized x y t) (λ y t. refl))
 
-  pub split : (levels : ℕ) (c : Combiner) → HasOne c → Split levels c
-  split levels tag.Named one = absurd one
-  split levels tag.Dup one = split_dup levels
-  split levels tag.Contiguous one = split_contiguous levels
-  split levels tag.Vector one = split_vector levels
-  split levels tag.Hvector one = split_hvector levels
-  split levels tag.Indexed one = split_indexed levels
-  split levels tag.Hindexed one = split_hindexed levels
-  split levels tag.IndexedBlock one = split_indexed_block levels
-  split levels tag.HindexedBlock one = split_hindexed_block levels
-  split levels tag.Struct one = absurd one
-  split levels tag.Subarray one = split_subarray levels
-  split levels tag.Darray one = split_darray levels
-  split levels tag.Resized one = split_resized levels
+  -- those that have one old type
+  pub split : (levels : ℕ) (c : Combiner) → c ≢ tag.Named → c ≢ tag.Struct → Split levels c
+  split levels tag.Named not_named not_struct = absurd (not_named refl)
+  split levels tag.Dup not_named not_struct = split_dup levels
+  split levels tag.Contiguous not_named not_struct = split_contiguous levels
+  split levels tag.Vector not_named not_struct = split_vector levels
+  split levels tag.Hvector not_named not_struct = split_hvector levels
+  split levels tag.Indexed not_named not_struct = split_indexed levels
+  split levels tag.Hindexed not_named not_struct = split_hindexed levels
+  split levels tag.IndexedBlock not_named not_struct = split_indexed_block levels
+  split levels tag.HindexedBlock not_named not_struct = split_hindexed_block levels
+  split levels tag.Struct not_named not_struct = absurd (not_struct refl)
+  split levels tag.Subarray not_named not_struct = split_subarray levels
+  split levels tag.Darray not_named not_struct = split_darray levels
+  split levels tag.Resized not_named not_struct = split_resized levels
