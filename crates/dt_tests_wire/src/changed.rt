@@ -25,7 +25,10 @@ fn each_front_is_no_text(rt: HostRuntime) -> Result<(), Fail> {
         assert!(rt; other_cut(rt.alloc(), &bytes).is_none(), "{form}");
         let at = bytes.len();
         bytes.push(0)?;
-        assert!(rt; import(rt.alloc(), &bytes).err() == Some(WireFault::Bad { at }), "{form}");
+        assert!(rt;
+            import(rt.alloc(), &bytes).err() == Some(WireFault::Bad { at }),
+            "{form}"
+        );
     }
     Ok(())
 }

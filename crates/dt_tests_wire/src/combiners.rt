@@ -21,9 +21,11 @@ fn holds(alloc: Global, row: &Row) -> Result<bool, Fail> {
     let read = import(alloc, &text)?;
     let written = export(alloc, &read)?;
     let again = import(alloc, &written)?;
-    Ok(written.as_slice() == text.as_slice()
-        && has(alloc, &read, map, contents)?
-        && has(alloc, &again, map, contents)?)
+    Ok(
+        written.as_slice() == text.as_slice()
+            && has(alloc, &read, map, contents)?
+            && has(alloc, &again, map, contents)?,
+    )
 }
 
 #[test]

@@ -36,18 +36,33 @@ const BAD_FORMS: [(&str, usize); 14] = [
     ("09ffffffff0000000100000000000000000006", 23),
     // A constructor that would refuse, and then a byte that is wrong.
     ("02ffffffff0017", 10),
-    ("0900000002ffffffff000000000000000000060000000100000000000000000d", 35),
+    (
+        "0900000002ffffffff000000000000000000060000000100000000000000000d",
+        35,
+    ),
 ];
 
 /// Forms behind the four bytes, and why the first constructor that refuses does so. A resized whose bound is above all limits
 /// overflows, and a count of -1 is a bad argument.
 const REFUSED: [(&str, WireFault); 11] = [
     ("02ffffffff0006", WireFault::BadArgument),
-    ("0c7fffffffffffffff00000000000000010006", WireFault::Overflow),
+    (
+        "0c7fffffffffffffff00000000000000010006",
+        WireFault::Overflow,
+    ),
     // An old type before the datatype that is made of it.
-    ("02ffffffff0c7fffffffffffffff00000000000000010006", WireFault::Overflow),
-    ("0c7fffffffffffffff000000000000000102ffffffff0006", WireFault::BadArgument),
-    ("0102ffffffff0c7fffffffffffffff00000000000000010006", WireFault::Overflow),
+    (
+        "02ffffffff0c7fffffffffffffff00000000000000010006",
+        WireFault::Overflow,
+    ),
+    (
+        "0c7fffffffffffffff000000000000000102ffffffff0006",
+        WireFault::BadArgument,
+    ),
+    (
+        "0102ffffffff0c7fffffffffffffff00000000000000010006",
+        WireFault::Overflow,
+    ),
     // The parts of a struct from left to right, and then the struct.
     (
         "09000000020000000100000000000000000c7fffffffffffffff0000000000000001000600000001000000000000000002ffffffff0006",
@@ -61,7 +76,10 @@ const REFUSED: [(&str, WireFault); 11] = [
         "0900000001ffffffff00000000000000000c7fffffffffffffff00000000000000010006",
         WireFault::Overflow,
     ),
-    ("0900000001ffffffff00000000000000000006", WireFault::BadArgument),
+    (
+        "0900000001ffffffff00000000000000000006",
+        WireFault::BadArgument,
+    ),
     // A part of no copies is made all the same.
     (
         "09000000010000000000000000000000000c7fffffffffffffff00000000000000010006",

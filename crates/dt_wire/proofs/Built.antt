@@ -1,5 +1,5 @@
 -- datatypes by their tags, and behind their four bytes
-use Rattle.std.proofs.Common.{◌≡◌, ◌⊎◌, inl, inr, ℕ, zero, suc, List, [], ◌∷◌, ◌++◌, Result, Ok, Err, IsErr, refl, sym, ap, subst, ◌∙◌, append-nil, arith}
+use Rattle.std.proofs.Common.{◌≡◌, inl, inr, ℕ, zero, suc, List, [], ◌∷◌, Ok, Err, IsErr, refl, sym, ap, subst, ◌∙◌, append-nil, arith}
 use Rattle.std.specs.List.{AllByRecursion}
 use Rattle.dt_form.specs.declared.envelope.Combiner.{Combiner}
 use Rattle.dt_form.specs.declared.form.FormOf.{FormOf}
@@ -12,8 +12,8 @@ use Rattle.dt_type.specs.declared.fault.CtorFault.TheVariants as ctor
 use Rattle.dt_wire.specs.Building.{with_old, in_two, type_at, calls_of, calls_among, IsBuilt, IsFirstIn, IsReadAs}
 use Rattle.dt_wire.specs.Fault.{IsText}
 use Rattle.dt_wire.specs.Given.{Takes}
-use Rattle.dt_wire.specs.Import.{IsFirstCause, IsImported, IsRead, IsRefused, IsTaken, IsWhy, calls, told}
-use Rattle.dt_wire.specs.Reading.{Bytes, Reader, bind, on_ok, give, item_at, map_at, list_at, counted_at, part_at, parts_at, behind, number_at, tag_in, zero_in, form_at, one_at, magic_at, text_at}
+use Rattle.dt_wire.specs.Import.{IsFirstCause, IsImported, IsRefused, IsTaken, IsWhy, calls, told}
+use Rattle.dt_wire.specs.Reading.{Bytes, Reader, bind, on_ok, item_at, map_at, list_at, counted_at, part_at, parts_at, behind, number_at, tag_in, zero_in, form_at, one_at, magic_at, text_at}
 use Rattle.dt_wire.specs.Skipping.{skip_magic, skip_zeros}
 use Rattle.dt_wire.specs.declared.args.Arguments.{Arguments}
 use Rattle.dt_wire.specs.declared.stop.Stop.{Stop}

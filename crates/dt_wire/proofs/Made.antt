@@ -1,24 +1,23 @@
 -- datatypes made of what was read
-use Rattle.std.proofs.Common.{◌≡◌, ◌⊎◌, inl, inr, ℕ, suc, List, [], ◌∷◌, ◌++◌, map, flat_map, Result, Ok, Err, IsErr, refl, sym, ap, subst, ◌∙◌, append-nil, slice_get}
+use Rattle.std.proofs.Common.{◌≡◌, inl, inr, ℕ, suc, List, [], ◌∷◌, ◌++◌, map, flat_map, Result, Ok, Err, IsErr, refl, sym, ap, subst, ◌∙◌, append-nil, slice_get}
 use Rattle.std.specs.List.{AllByRecursion}
 use Rattle.dt_kinds.specs.declared.kind.Kind.{Kind}
-use Rattle.dt_form.specs.Form.{olds_of}
 use Rattle.dt_form.specs.declared.form.FormOf.{FormOf}
 use Rattle.dt_form.specs.declared.form.FormOf.TheVariants as form
 use Rattle.dt_form.specs.declared.form.PartOf.{PartOf}
 use Rattle.dt_type.specs.Answer.{IsCause, IsMade}
-use Rattle.dt_type.specs.Datatype.{Layer, form_of}
+use Rattle.dt_type.specs.Datatype.{Layer}
 use Rattle.dt_type.specs.Form.{result_of}
 use Rattle.dt_type.specs.declared.datatype.Seen.{Seen, out-roll-Seen}
 use Rattle.dt_type.specs.declared.fault.CtorFault.{CtorFault}
-use Rattle.dt_wire.specs.Building.{with_old, in_two, type_at, calls_of, calls_in, calls_among, IsBuilt, IsReadAs, IsFirstIn}
-use Rattle.dt_wire.specs.Import.{IsFirstCause, IsTaken, calls, called}
+use Rattle.dt_wire.specs.Building.{with_old, calls_of, calls_in, calls_among, IsBuilt, IsReadAs, IsFirstIn}
+use Rattle.dt_wire.specs.Import.{IsFirstCause, IsTaken, calls}
 use Rattle.dt_wire.specs.Reading.{Bytes, Reader, bind, on_ok, give, item_at, kinds, map_at}
 use Rattle.dt_wire.specs.declared.args.Arguments.{Arguments}
 use Rattle.dt_wire.specs.declared.args.Arguments.TheVariants.{Dup, Contiguous, Vector, Hvector, Indexed, Hindexed, IndexedBlock, HindexedBlock, Subarray, Darray, Resized}
 use Rattle.dt_wire.specs.declared.stop.Stop.{Stop}
 use Rattle.dt_wire.specs.declared.stop.Stop.TheVariants.{Bad, Refused}
-use Rattle.dt_wire.proofs.Readers.{on_ok-ok, bind_ok}
+use Rattle.dt_wire.proofs.Readers.{on_ok-ok}
 use Rattle.dt_wire.proofs.Spells.{map_again}
 
 -- the first constructors of some

@@ -1,5 +1,5 @@
 -- bytes have one answer, and the text of a datatype is read as that datatype
-use Rattle.std.proofs.Common.{◌≡◌, ◌≢◌, ◌⊎◌, inl, inr, ℕ, zero, suc, ◌<◌, ◌≤◌, List, [], ◌∷◌, ◌++◌, flat_map, Result, Ok, Err, refl, sym, ap, subst, ◌∙◌, arith}
+use Rattle.std.proofs.Common.{◌≡◌, ◌≢◌, ◌⊎◌, inl, inr, ℕ, zero, suc, List, [], ◌∷◌, flat_map, Result, Ok, Err, refl, sym, ap, subst, ◌∙◌, arith}
 use Rattle.std.specs.List.{AllByRecursion}
 use Rattle.dt_form.specs.Form.{olds_of}
 use Rattle.dt_form.specs.declared.form.FormOf.{FormOf}
@@ -15,7 +15,7 @@ use Rattle.dt_type.specs.declared.fault.CtorFault.{CtorFault}
 use Rattle.dt_type.specs.declared.fault.CtorFault.TheVariants.{BadArgument, Overflow, TooDeep, TooHeavy, NoMemory}
 use Rattle.dt_wire.specs.Building.{calls_of}
 use Rattle.dt_wire.specs.Fault.{IsBadAt}
-use Rattle.dt_wire.specs.Import.{IsFirstCause, IsImported, IsRead, IsRefused, IsTaken, IsWhy, called, calls, told}
+use Rattle.dt_wire.specs.Import.{IsFirstCause, IsImported, IsRefused, IsTaken, IsWhy, called, calls, told}
 use Rattle.dt_wire.specs.Laws.{OneAnswer, TextIsReadBack}
 use Rattle.dt_wire.specs.Spelling.{text_of}
 use Rattle.dt_wire.specs.Wire.{AreWritten, IsWire}

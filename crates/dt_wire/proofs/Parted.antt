@@ -1,12 +1,10 @@
 -- the parts of a struct, made one after another
-use Rattle.std.proofs.Common.{◌≡◌, ◌⊎◌, inl, inr, ℕ, suc, ℤ, ◌+◌, ◌-◌, ◌<◌, List, [], ◌∷◌, ◌++◌, flat_map, Result, Ok, Err, IsErr, refl, sym, ap, subst, ◌∙◌, append-nil, arith}
+use Rattle.std.proofs.Common.{◌≡◌, inl, inr, ℕ, suc, ℤ, ◌+◌, ◌-◌, ◌<◌, List, [], ◌∷◌, ◌++◌, Result, Ok, Err, IsErr, refl, sym, ap, subst, ◌∙◌, append-nil, arith}
 use Rattle.std.specs.List.{AllByRecursion}
 use Rattle.std.proofs.lemmas.Grind.{flat_map-append}
-use Rattle.dt_form.specs.declared.form.FormOf.{FormOf}
 use Rattle.dt_form.specs.declared.form.PartOf.{PartOf}
 use Rattle.dt_type.specs.declared.datatype.Seen.{Seen}
-use Rattle.dt_type.specs.declared.fault.CtorFault.{CtorFault}
-use Rattle.dt_wire.specs.Building.{calls_of, calls_in, calls_among, IsBuilt, IsFirstIn}
+use Rattle.dt_wire.specs.Building.{calls_of, calls_in, calls_among, IsBuilt}
 use Rattle.dt_wire.specs.Import.{IsFirstCause, IsTaken}
 use Rattle.dt_wire.specs.Reading.{Bytes, Reader, bind, on_ok, give, map_at, pair_at, list_at, int_at, address_at, part_at}
 use Rattle.dt_wire.specs.declared.stop.Stop.{Stop}

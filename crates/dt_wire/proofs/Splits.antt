@@ -6,7 +6,7 @@ use Rattle.dt_form.specs.declared.form.FormOf.{FormOf}
 use Rattle.dt_form.specs.declared.form.FormOf.TheVariants as form
 use Rattle.dt_type.specs.declared.datatype.Seen.{Seen}
 use Rattle.dt_wire.specs.declared.args.Arguments.{Arguments}
-use Rattle.dt_wire.specs.declared.args.Arguments.TheVariants.{Dup, Contiguous, Vector, Hvector, Indexed, Hindexed, IndexedBlock, HindexedBlock, Subarray, Darray, Resized}
+use Rattle.dt_wire.specs.declared.args.Arguments.TheVariants.{Contiguous, Vector, Hvector, Indexed, Hindexed, IndexedBlock, HindexedBlock, Subarray, Darray, Resized}
 use Rattle.dt_wire.specs.Building.{with_old, arguments_at, in_two}
 use Rattle.dt_wire.specs.Reading.{Bytes, Reader, bind, on_ok, ◌>>=◌, give, item_at, map_at, pair_at, int_at, address_at, counted_at, int_block_at, addr_block_at, sub_dim_at, dist_dim_at, orders, behind}
 

@@ -93,12 +93,7 @@ fn parts(alloc: Global, bytes: &[u8], levels: u32) -> Result<(Items<Part>, &[u8]
 
 /// So many parts of a struct.
 #[cycle(forms)]
-fn each_part(
-    alloc: Global,
-    bytes: &[u8],
-    n: u32,
-    levels: u32,
-) -> Result<(Items<Part>, &[u8]), Stop>
+fn each_part(alloc: Global, bytes: &[u8], n: u32, levels: u32) -> Result<(Items<Part>, &[u8]), Stop>
     ensures { IsBuilt (calls_among levels) (list_at (part_at (type_at levels)) n bytes.now) result }
 {
     let mut parts = Items::new(alloc);

@@ -1,7 +1,6 @@
-use Rattle.std.proofs.Common.{rules, ◌≡◌, suc, ◌+◌, ◌-◌, ◌++◌, [], ◌∷◌, Ok, Err, IsErr, sym, subst, ap, ◌∙◌, arith, to_z, of_z}
+use Rattle.std.proofs.Common.{rules, ◌≡◌, suc, ◌+◌, ◌-◌, ◌++◌, [], ◌∷◌, Ok, Err, sym, subst, ap, ◌∙◌, arith, to_z, of_z}
 use Rattle.std.specs.List.{AllByRecursion}
 use mir.Syntax.{w32, w64}
-use Rattle.dt_form.specs.declared.form.FormOf.{FormOf}
 use Rattle.dt_form.specs.declared.form.FormOf.TheVariants as form
 use Rattle.dt_type.specs.Answer.{IsCause, IsMade}
 use Rattle.dt_type.specs.Form.{result_of}
@@ -11,10 +10,9 @@ use Rattle.dt_wire.specs.Reading.{address_at, behind, int_at, item_at, list_at, 
 use Rattle.dt_wire.specs.Skipping.{skip_zeros}
 use Rattle.dt_wire.specs.declared.stop.Stop.TheVariants.{Refused}
 use Rattle.dt_wire.proofs.Built.{arguments_stop, old_stop, both_read, no_level, tag_wrong, tag_read, all_parts_stop, all_parts_read, no_zeros, four_zeros, no_number, number_parts}
-use Rattle.dt_wire.proofs.Made.{calls_with_old, calls_of_parts, is_error, last_made, last_refused, map_same, stop_map}
+use Rattle.dt_wire.proofs.Made.{calls_with_old, calls_of_parts, is_error, last_made, last_refused, map_same}
 use Rattle.dt_wire.proofs.Parted.{no_len, no_disp, part_of, part_stop, part_made, parts_stop, parts_taken}
-use Rattle.dt_wire.proofs.Prefixed.{prefixed, list_next, list_end, list_first}
-use Rattle.dt_wire.proofs.Spells.{map_again}
+use Rattle.dt_wire.proofs.Prefixed.{prefixed, list_next}
 use Rattle.dt_wire.proofs.Splits.{split}
 use Rattle.dt_wire.proofs.building.+forms.Goals as goal
 

@@ -1,4 +1,4 @@
-use Rattle.std.proofs.Common.{rules, ◌≡◌, Ok, Err, sym, subst}
+use Rattle.std.proofs.Common.{rules, ◌≡◌, Err, sym, subst}
 use Rattle.std.specs.Prelude.{MatchOption}
 use Rattle.dt_type.specs.Form.{result_of}
 use Rattle.dt_wire.specs.Building.{calls_of, IsBuilt}
