@@ -45,31 +45,34 @@ fn is_faithful(alloc: Global, bytes: &[u8], right: usize) -> Result<bool, Fail> 
     }
 }
 
-/// The first value of a byte with which a text isn't read faithfully, if there is one.
-fn other_value(alloc: Global, bytes: &mut [u8], at: usize) -> Result<Option<u8>, Fail> {
-    for value in 0..=u8::MAX {
-        if let Some(byte) = bytes.get_mut(at) {
-            *byte = value;
-        }
-        if !is_faithful(alloc, bytes, at)? {
-            return Ok(Some(value));
+/// Each bit of a byte, and all of them.
+const CHANGES: [u8; 9] = [1, 2, 4, 8, 16, 32, 64, 128, 255];
+
+fn flip(bytes: &mut [u8], at: usize, bits: u8) {
+    if let Some(byte) = bytes.get_mut(at) {
+        *byte ^= bits;
+    }
+}
+
+/// The first change of a byte with which a text isn't read faithfully, if there is one.
+fn other_change(alloc: Global, bytes: &mut [u8], at: usize) -> Result<Option<u8>, Fail> {
+    for bits in CHANGES {
+        flip(bytes, at, bits);
+        let faithful = is_faithful(alloc, bytes, at)?;
+        flip(bytes, at, bits);
+        if !faithful {
+            return Ok(Some(bits));
         }
     }
     Ok(None)
 }
 
-/// The place of the first byte with a value with which a text isn't read faithfully.
+/// The place of the first byte with a change with which a text isn't read faithfully, if there is one.
 fn other_byte(alloc: Global, form: &str) -> Result<Option<usize>, Fail> {
     let mut bytes = text(alloc, form)?;
     for at in 0..bytes.len() {
-        let Some(right) = bytes.get(at).copied() else {
+        if other_change(alloc, &mut bytes, at)?.is_some() {
             return Ok(Some(at));
-        };
-        if other_value(alloc, &mut bytes, at)?.is_some() {
-            return Ok(Some(at));
-        }
-        if let Some(byte) = bytes.get_mut(at) {
-            *byte = right;
         }
     }
     Ok(None)
