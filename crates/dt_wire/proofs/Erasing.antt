@@ -190,6 +190,10 @@ pass_dist_dim =
     (pass_pair int_at (pair_at (item_at dist_in) (pair_at darg_at int_at)) (skip 4) (and_then (skip_within 1 3) (skip 8)) pass_int
     (pass_pair (item_at dist_in) (pair_at darg_at int_at) (skip_within 1 3) (skip 8) (pass_item dist_in 1 3 dist_within) (pass_two darg_at int_at 4 4 pass_darg pass_int)))
 
+pub pass_zeros : Passes (list_at (item_at zero_in) 4) skip_zeros
+unfolding skip_zeros
+pass_zeros = pass_list (item_at zero_in) (skip_within 0 0) 4 (pass_item zero_in 0 0 zero_within)
+
 -- arguments in front of an old type
 module _ {A : Type 0} (old : Reader A) (f : Skip) (passes : Passes old f) where
   before : {B : Type 0} (r : Reader B) (g : Skip) → Passes r g → Passes (pair_at r old) (and_then g f)
@@ -259,8 +263,8 @@ module _ (below : Reader (FormOf Seen)) where
   past_hindexed_block levels = pass_map _ (pair_at int_at (pair_at (counted_at address_at) old_at)) (and_then (skip_disps 8) gone) (past_disps address_at 8 pass_address)
 
   past_parts : (levels : ℕ) → Passes (parts_at levels old_at) (skip_parts levels gone)
-  unfolding part_at skip_parts skip_zeros
-  past_parts zero = pass_map _ (list_at (item_at zero_in) 4) (times (skip_within 0 0) 4) (pass_list (item_at zero_in) (skip_within 0 0) 4 (pass_item zero_in 0 0 zero_within))
+  unfolding part_at skip_parts
+  past_parts zero = pass_map _ (list_at (item_at zero_in) 4) skip_zeros pass_zeros
   past_parts (suc levels) =
       pass_counted (part_at old_at) (skip_part gone) (pass_map _ (pair_at int_at (pair_at address_at old_at)) (skip_part gone) (pass_part old_at gone old))
 
@@ -312,7 +316,7 @@ pass_bind r k f g first next bytes = left_bind (r bytes) k g next ∙ ap (λ e. 
 pass_one : (x : ℕ) → Passes (item_at (is_byte x)) (skip_within x x)
 pass_one x = pass_item (is_byte x) x x (byte_within x)
 
-pass_magic : Passes magic_at skip_magic
+pub pass_magic : Passes magic_at skip_magic
 unfolding magic_at skip_magic
 pass_magic =
     pass_bind (item_at (is_byte 100)) _ (skip_within 100 100) (and_then (skip_within 116 116) (and_then (skip_within 119 119) (skip_within 49 49))) (pass_one 100) (λ d.

@@ -16,11 +16,11 @@ use Rattle.dt_wire.proofs.Refused.{take_front, came_out, stopped, went_on}
 use Rattle.dt_wire.proofs.Spells.{map_again, list_good}
 
 -- what was read by a reader that left this
-read_by : {A : Type 0} (e : Result (A × Bytes) Bytes) (rest : Bytes) → erased e ≡ Ok rest → (x : A) × (e ≡ Ok (x, rest))
+pub read_by : {A : Type 0} (e : Result (A × Bytes) Bytes) (rest : Bytes) → erased e ≡ Ok rest → (x : A) × (e ≡ Ok (x, rest))
 read_by {A} (Ok x) rest e = let same : x.1 ≡ rest = cc in (x.0, ap (λ (r : Bytes). Ok (x.0, r)) same)
 read_by (Err left) rest e = cc
 
-stuck_at : {A : Type 0} (e : Result (A × Bytes) Bytes) (left : Bytes) → erased e ≡ Err left → e ≡ Err left
+pub stuck_at : {A : Type 0} (e : Result (A × Bytes) Bytes) (left : Bytes) → erased e ≡ Err left → e ≡ Err left
 stuck_at (Ok x) left e = cc
 stuck_at (Err other) left e = let same : other ≡ left = cc in ap (λ (r : Bytes). Err r) same
 

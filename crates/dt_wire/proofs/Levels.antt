@@ -20,10 +20,10 @@ pub three : (a b c d x y z x' y' z' : List ℕ) → b ≡ a ++ x → c ≡ b ++ 
 three a b c d x y z x' y' z' p q r e f g = cc (p, q, r, e, f, g, append_assoc a (x ++ y) z, append_assoc a x y)
 
 -- what a datatype's form says of its depth and its weight
-depth_is : (t : Seen) → t ≡ result_of (form_of t) → depth_of t ≡ depth_by (form_of t)
+pub depth_is : (t : Seen) → t ≡ result_of (form_of t) → depth_of t ≡ depth_by (form_of t)
 depth_is t made = ap depth_of made ∙ ap (λ (l : Layer). l.depth) (out-roll-Seen _)
 
-weight_is : (t : Seen) → t ≡ result_of (form_of t) → weight_of t ≡ weight_by (form_of t)
+pub weight_is : (t : Seen) → t ≡ result_of (form_of t) → weight_of t ≡ weight_by (form_of t)
 weight_is t made = ap weight_of made ∙ ap (λ (l : Layer). l.weight) (out-roll-Seen _)
 
 abbrev Becomes : ℕ → Seen → Type 0

@@ -1,9 +1,12 @@
+pub mod Built
 pub mod Erasing
 pub mod Forms
 pub mod Lefts
 pub mod Levels
 pub mod Made
 pub mod Numbers
+pub mod OneAnswer
+pub mod Parted
 pub mod Prefixed
 pub mod Readers
 pub mod Refused

@@ -44,7 +44,7 @@ pub record Good {A : Type 0} (P : A → Bytes → Type 0) (r : Reader A) : Type 
   pub some : Accepts r
 
 -- one reader behind another
-on_ok-ok : {A B : Type 0} (e : Result (A × Bytes) Bytes) (f : A → Reader B) (y : B × Bytes) → on_ok e f ≡ Ok y → (x : A) × (rest : Bytes) × (e ≡ Ok (x, rest)) × (f x rest ≡ Ok y)
+pub on_ok-ok : {A B : Type 0} (e : Result (A × Bytes) Bytes) (f : A → Reader B) (y : B × Bytes) → on_ok e f ≡ Ok y → (x : A) × (rest : Bytes) × (e ≡ Ok (x, rest)) × (f x rest ≡ Ok y)
 on_ok-ok (Ok x) f y e = (x.0, x.1, refl, e)
 on_ok-ok (Err left) f y e = cc
 

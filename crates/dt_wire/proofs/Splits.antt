@@ -1,5 +1,5 @@
 -- a form is read as the arguments of its constructor, and then its old type
-use Rattle.std.proofs.Common.{◌≡◌, ℕ, Result, Ok, Err, refl, sym, ap, ◌∙◌, slice_get}
+use Rattle.std.proofs.Common.{◌≡◌, ◌≢◌, ℕ, Result, Ok, Err, refl, sym, ap, ◌∙◌, slice_get}
 use Rattle.dt_form.specs.declared.envelope.Combiner.{Combiner}
 use Rattle.dt_form.specs.declared.envelope.Combiner.TheVariants as tag
 use Rattle.dt_form.specs.declared.form.FormOf.{FormOf}
@@ -52,46 +52,50 @@ module _ (old : Reader Seen) where
   unfolding bind map_at pair_at
   first r s q g h same bytes = first_by (r bytes) s q g h same
 
-  abbrev Split : ℕ → Combiner → Type 0
+  abbrev pub Split : ℕ → Combiner → Type 0
   Split levels c = Alike (behind levels old c) (in_two (arguments_at c) old)
 
-  pub split_contiguous : (levels : ℕ) → Split levels tag.Contiguous
+  split_dup : (levels : ℕ) → Split levels tag.Dup
+  unfolding map_at bind
+  split_dup levels bytes = refl
+
+  split_contiguous : (levels : ℕ) → Split levels tag.Contiguous
   split_contiguous levels = last int_at (λ n. Contiguous n) (λ n t. form.Contiguous n t) (λ n t. refl)
 
-  pub split_vector : (levels : ℕ) → Split levels tag.Vector
+  split_vector : (levels : ℕ) → Split levels tag.Vector
   split_vector levels =
       first int_at (pair_at int_at (pair_at int_at old)) (pair_at int_at int_at) (λ x y. Vector x y.0 y.1) (λ x y. form.Vector x y.0 y.1.0 y.1.1) (λ x.
       first int_at (pair_at int_at old) int_at (λ y z. Vector x y z) (λ y z. form.Vector x y z.0 z.1) (λ y.
       last int_at (λ z. Vector x y z) (λ z t. form.Vector x y z t) (λ z t. refl)))
 
-  pub split_hvector : (levels : ℕ) → Split levels tag.Hvector
+  split_hvector : (levels : ℕ) → Split levels tag.Hvector
   split_hvector levels =
       first int_at (pair_at int_at (pair_at address_at old)) (pair_at int_at address_at) (λ x y. Hvector x y.0 y.1) (λ x y. form.Hvector x y.0 y.1.0 y.1.1) (λ x.
       first int_at (pair_at address_at old) address_at (λ y z. Hvector x y z) (λ y z. form.Hvector x y z.0 z.1) (λ y.
       last address_at (λ z. Hvector x y z) (λ z t. form.Hvector x y z t) (λ z t. refl)))
 
-  pub split_indexed : (levels : ℕ) → Split levels tag.Indexed
+  split_indexed : (levels : ℕ) → Split levels tag.Indexed
   split_indexed levels = last (counted_at int_block_at) (λ xs. Indexed xs) (λ xs t. form.Indexed xs t) (λ xs t. refl)
 
-  pub split_hindexed : (levels : ℕ) → Split levels tag.Hindexed
+  split_hindexed : (levels : ℕ) → Split levels tag.Hindexed
   split_hindexed levels = last (counted_at addr_block_at) (λ xs. Hindexed xs) (λ xs t. form.Hindexed xs t) (λ xs t. refl)
 
-  pub split_indexed_block : (levels : ℕ) → Split levels tag.IndexedBlock
+  split_indexed_block : (levels : ℕ) → Split levels tag.IndexedBlock
   split_indexed_block levels =
       first int_at (pair_at (counted_at int_at) old) (counted_at int_at) (λ x xs. IndexedBlock x xs) (λ x y. form.IndexedBlock x y.0 y.1) (λ x.
       last (counted_at int_at) (λ xs. IndexedBlock x xs) (λ xs t. form.IndexedBlock x xs t) (λ xs t. refl))
 
-  pub split_hindexed_block : (levels : ℕ) → Split levels tag.HindexedBlock
+  split_hindexed_block : (levels : ℕ) → Split levels tag.HindexedBlock
   split_hindexed_block levels =
       first int_at (pair_at (counted_at address_at) old) (counted_at address_at) (λ x xs. HindexedBlock x xs) (λ x y. form.HindexedBlock x y.0 y.1) (λ x.
       last (counted_at address_at) (λ xs. HindexedBlock x xs) (λ xs t. form.HindexedBlock x xs t) (λ xs t. refl))
 
-  pub split_subarray : (levels : ℕ) → Split levels tag.Subarray
+  split_subarray : (levels : ℕ) → Split levels tag.Subarray
   split_subarray levels =
       first (item_at (slice_get orders)) (pair_at (counted_at sub_dim_at) old) (counted_at sub_dim_at) (λ x xs. Subarray xs x) (λ x y. form.Subarray y.0 x y.1) (λ x.
       last (counted_at sub_dim_at) (λ xs. Subarray xs x) (λ xs t. form.Subarray xs x t) (λ xs t. refl))
 
-  pub split_darray : (levels : ℕ) → Split levels tag.Darray
+  split_darray : (levels : ℕ) → Split levels tag.Darray
   split_darray levels =
       first int_at (pair_at int_at (pair_at (item_at (slice_get orders)) (pair_at (counted_at dist_dim_at) old))) (pair_at int_at (pair_at (item_at (slice_get orders)) (counted_at dist_dim_at)))
       (λ s y. Darray s y.0 y.1.1 y.1.0) (λ s y. form.Darray s y.0 y.1.1.0 y.1.0 y.1.1.1) (λ s.
@@ -100,7 +104,23 @@ module _ (old : Reader Seen) where
       first (item_at (slice_get orders)) (pair_at (counted_at dist_dim_at) old) (counted_at dist_dim_at) (λ o xs. Darray s r xs o) (λ o y. form.Darray s r y.0 o y.1) (λ o.
       last (counted_at dist_dim_at) (λ xs. Darray s r xs o) (λ xs t. form.Darray s r xs o t) (λ xs t. refl))))
 
-  pub split_resized : (levels : ℕ) → Split levels tag.Resized
+  split_resized : (levels : ℕ) → Split levels tag.Resized
   split_resized levels =
       first address_at (pair_at address_at old) address_at (λ x y. Resized x y) (λ x y. form.Resized x y.0 y.1) (λ x.
       last address_at (λ y. Resized x y) (λ y t. form.Resized x y t) (λ y t. refl))
+
+  -- those that have one old type
+  pub split : (levels : ℕ) (c : Combiner) → c ≢ tag.Named → c ≢ tag.Struct → Split levels c
+  split levels tag.Named not_named not_struct = absurd (not_named refl)
+  split levels tag.Dup not_named not_struct = split_dup levels
+  split levels tag.Contiguous not_named not_struct = split_contiguous levels
+  split levels tag.Vector not_named not_struct = split_vector levels
+  split levels tag.Hvector not_named not_struct = split_hvector levels
+  split levels tag.Indexed not_named not_struct = split_indexed levels
+  split levels tag.Hindexed not_named not_struct = split_hindexed levels
+  split levels tag.IndexedBlock not_named not_struct = split_indexed_block levels
+  split levels tag.HindexedBlock not_named not_struct = split_hindexed_block levels
+  split levels tag.Struct not_named not_struct = absurd (not_struct refl)
+  split levels tag.Subarray not_named not_struct = split_subarray levels
+  split levels tag.Darray not_named not_struct = split_darray levels
+  split levels tag.Resized not_named not_struct = split_resized levels

@@ -1,24 +1,23 @@
 -- Datatypes made of what is read from bytes.
 use Rattle.std.specs.Borrow.{Bor}
 use Rattle.std.specs.List.{AllByRecursion, flat_map}
-use Rattle.dt_form.specs.Arguments.{takes_arguments}
-use Rattle.dt_form.specs.Form.{olds_of}
-use Rattle.dt_type.specs.declared.fault.CtorFault.{CtorFault}
-use Rattle.dt_type.specs.declared.fault.CtorFault.TheVariants.{NoMemory}
-use Rattle.dt_type.specs.Answer.{IsAllowed, IsCause}
-use Rattle.dt_type.specs.Datatype.{form_of}
-use Rattle.dt_type.specs.Form.{result_of}
-use Rattle.dt_wire.specs.declared.stop.Stop.{Stop}
-use Rattle.dt_wire.specs.declared.stop.Stop.TheVariants.{Bad, Refused}
-use Rattle.std.specs.Prelude.{◌⊎◌, ◌++◌, zero, suc, IsTrue, IsErr, Ok, Err, slice_get, ◌≡◌, ℕ, List, [], ◌∷◌, Result}
+use Rattle.std.specs.Prelude.{◌⊎◌, IsErr, Ok, Err, slice_get, ◌≡◌, ℕ, List, Result}
 use Rattle.dt_form.specs.declared.envelope.Combiner.{Combiner}
 use Rattle.dt_form.specs.declared.envelope.Combiner.TheVariants as tag
 use Rattle.dt_form.specs.declared.form.FormOf.{FormOf}
 use Rattle.dt_form.specs.declared.form.FormOf.TheVariants as form
+use Rattle.dt_form.specs.declared.form.PartOf.{PartOf}
+use Rattle.dt_type.specs.Datatype.{form_of}
+use Rattle.dt_type.specs.Form.{result_of}
 use Rattle.dt_type.specs.declared.datatype.Seen.{Seen}
+use Rattle.dt_type.specs.declared.fault.CtorFault.{CtorFault}
+use Rattle.dt_type.specs.declared.fault.CtorFault.TheVariants.{NoMemory}
 use Rattle.dt_wire.specs.declared.args.Arguments.{Arguments}
 use Rattle.dt_wire.specs.declared.args.Arguments.TheVariants.{Dup, Contiguous, Vector, Hvector, Indexed, Hindexed, IndexedBlock, HindexedBlock, Subarray, Darray, Resized}
-use Rattle.dt_wire.specs.Reading.{Bytes, Reader, item_at, map_at, pair_at, int_at, address_at, counted_at, int_block_at, addr_block_at, sub_dim_at, dist_dim_at, orders, on_ok}
+use Rattle.dt_wire.specs.declared.stop.Stop.{Stop}
+use Rattle.dt_wire.specs.declared.stop.Stop.TheVariants.{Bad, Refused}
+use Rattle.dt_wire.specs.Import.{IsFirstCause, IsTaken, calls}
+use Rattle.dt_wire.specs.Reading.{Bytes, Reader, item_at, map_at, pair_at, int_at, address_at, counted_at, int_block_at, addr_block_at, sub_dim_at, dist_dim_at, form_at, orders, on_ok}
 
 -- a form, by the arguments of its constructor and its old type
 abbrev pub with_old : Arguments → Seen → FormOf Seen
@@ -55,35 +54,31 @@ arguments_at tag.Resized bytes = map_at (λ x. Resized x.0 x.1) (pair_at address
 abbrev pub in_two : Reader Arguments → Reader Seen → Reader (FormOf Seen)
 in_two args old bytes = on_ok (args bytes) (λ a. map_at (with_old a) old)
 
--- a constructor that no refusal keeps from its datatype
-pub record IsTaken (f : FormOf Seen) : Type 0 where
-  pub arguments : IsTrue (takes_arguments f)
-  pub allowed : IsAllowed f
+-- a datatype of so many levels at most, by its form
+abbrev pub type_at : ℕ → Reader Seen
+type_at levels = map_at result_of (form_at levels)
 
--- the first one that isn't taken has this cause
-abbrev pub IsFirstCause : List (FormOf Seen) → CtorFault → Type 0
-IsFirstCause [] fault = ⊥
-IsFirstCause (f ∷ fs) fault = IsCause f fault ⊎ (IsTaken f × IsFirstCause fs fault)
+-- the constructors in a datatype, and in the parts of a struct
+abbrev pub calls_of : ℕ → Seen → List (FormOf Seen)
+calls_of levels t = calls levels (form_of t)
 
--- the constructor that makes a form; none makes a kind
-abbrev pub called : FormOf Seen → List (FormOf Seen)
-called (form.Named kind) = []
-called f = f ∷ []
+abbrev pub calls_in : ℕ → PartOf Seen → List (FormOf Seen)
+calls_in levels p = calls_of levels p.old
 
--- the constructors in a form of so many levels: those of its old types before its own, from left to right
-abbrev pub calls : ℕ → FormOf Seen → List (FormOf Seen)
-calls zero f = []
-calls (suc levels) f = flat_map (λ old. calls levels (form_of old)) (olds_of f) ++ called f
+abbrev pub calls_among : ℕ → List (PartOf Seen) → List (FormOf Seen)
+calls_among levels parts = flat_map (calls_in levels) parts
 
--- a datatype that was read
-pub record IsReadAs (levels : ℕ) (read : Result (FormOf Seen × Bytes) Bytes) (t : Seen) (rest : Bytes) : Type 0 where
-  pub form : FormOf Seen
-  pub is : read ≡ Ok (form, rest)
-  pub value : t ≡ result_of form
-  pub taken : AllByRecursion IsTaken (calls levels form)
+-- what is read, where no constructor in it refuses
+pub record IsReadAs {A : Type 0} (within : A → List (FormOf Seen)) (read : Result (A × Bytes) Bytes) (x : A) (rest : Bytes) : Type 0 where
+  pub is : read ≡ Ok (x, rest)
+  pub taken : AllByRecursion IsTaken (within x)
 
--- it, or that none is read, or the fault of the first constructor that refuses
-abbrev pub IsBuilt : ℕ → Result (FormOf Seen × Bytes) Bytes → Result (Seen × Bor Bytes) Stop → Type 0
-IsBuilt levels read (Ok x) = IsReadAs levels read x.0 x.1.now
-IsBuilt levels read (Err Bad) = IsErr read
-IsBuilt levels read (Err (Refused fault)) = (fault ≡ NoMemory) ⊎ ((f : FormOf Seen) (rest : Bytes) → read ≡ Ok (f, rest) → IsFirstCause (calls levels f) fault)
+-- the fault of the first one that refuses; memory may run out before all is read
+abbrev pub IsFirstIn : {A : Type 0} → (A → List (FormOf Seen)) → Result (A × Bytes) Bytes → CtorFault → Type 0
+IsFirstIn {A} within read fault = (fault ≡ NoMemory) ⊎ ((x : A) (rest : Bytes) → read ≡ Ok (x, rest) → IsFirstCause (within x) fault)
+
+-- the answer of a reader that calls constructors
+abbrev pub IsBuilt : {A : Type 0} → (A → List (FormOf Seen)) → Result (A × Bytes) Bytes → Result (A × Bor Bytes) Stop → Type 0
+IsBuilt within read (Ok x) = IsReadAs within read x.0 x.1.now
+IsBuilt within read (Err Bad) = IsErr read
+IsBuilt within read (Err (Refused fault)) = IsFirstIn within read fault

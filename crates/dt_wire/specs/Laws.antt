@@ -1,11 +1,14 @@
-use Rattle.std.specs.Prelude.{◌≡◌, ◌⊎◌, ◌↔◌, ℕ, List, [], ◌++◌}
+use Rattle.std.specs.Prelude.{◌≡◌, ◌≢◌, ◌⊎◌, ◌↔◌, ℕ, List, [], ◌++◌, Result, Ok, Err}
 use Rattle.dt_form.specs.declared.form.FormOf.{FormOf}
 use Rattle.dt_type.specs.declared.datatype.Seen.{Seen}
 use Rattle.dt_type.specs.Datatype.{form_of}
 use Rattle.dt_type.specs.Whole.{IsWhole}
 use Rattle.dt_wire.specs.Fault.{IsBadAt, IsText}
+use Rattle.dt_wire.specs.Import.{IsRead}
 use Rattle.dt_wire.specs.Spelling.{spelling, text_of}
 use Rattle.dt_wire.specs.Wire.{AreWritten, IsForm, IsWire}
+use Rattle.dt_wire.specs.declared.fault.WireFault.{WireFault}
+use Rattle.dt_wire.specs.declared.fault.WireFault.TheVariants.{NoMemory}
 
 -- no spelling of a form begins that of another, whatever stands behind them
 abbrev pub NoSpellingBeginsAnother : Type 0
@@ -32,3 +35,13 @@ OneBadPlace = (bytes : List ℕ) (at at' : ℕ) → IsBadAt bytes at → IsBadAt
 -- the form of every datatype has a spelling
 abbrev pub EachTypeHasASpelling : Type 0
 EachTypeHasASpelling = (t : Seen) → IsWhole t → AreWritten 64 t → IsWire (text_of (form_of t)) (form_of t)
+
+-- bytes are read with one answer, as long as memory lasts
+abbrev pub OneAnswer : Type 0
+OneAnswer =
+    (bytes : List ℕ) (answer answer' : Result Seen WireFault) → IsRead bytes answer → IsRead bytes answer'
+    → answer ≢ Err NoMemory → answer' ≢ Err NoMemory → answer ≡ answer'
+
+-- the text of a datatype is read as that datatype, or memory runs out
+abbrev pub TextIsReadBack : Type 0
+TextIsReadBack = (t : Seen) (answer : Result Seen WireFault) → IsWhole t → AreWritten 64 t → IsRead (text_of (form_of t)) answer → (answer ≡ Ok t) ⊎ (answer ≡ Err NoMemory)

@@ -1,6 +1,7 @@
 pub mod Building
 pub mod Fault
 pub mod Given
+pub mod Import
 pub mod Laws
 pub mod Reading
 pub mod Skipping

@@ -1,5 +1,5 @@
 //! Laws of bytes and forms, stated over their definitions. The functions do nothing.
-ghost use Rattle.dt_wire.specs.Laws.{EachTextIsReadOrBad, EachTypeHasASpelling, NoSpellingBeginsAnother, NoTextBeginsAnother, OneBadPlace, OneSpelling};
+ghost use Rattle.dt_wire.specs.Laws.{EachTextIsReadOrBad, EachTypeHasASpelling, NoSpellingBeginsAnother, NoTextBeginsAnother, OneAnswer, OneBadPlace, OneSpelling, TextIsReadBack};
 
 /// The bytes of one form begin those of no other, whatever stands behind them.
 pub fn no_spelling_begins_another()
@@ -29,4 +29,14 @@ pub fn one_bad_place()
 /// The form of every datatype has a text.
 pub fn each_type_has_a_spelling()
     ensures { EachTypeHasASpelling }
+{}
+
+/// Bytes are read as one datatype or refused for one reason, as long as memory lasts.
+pub fn one_answer()
+    ensures { OneAnswer }
+{}
+
+/// The text of a datatype is read as that datatype, as long as memory lasts.
+pub fn text_is_read_back()
+    ensures { TextIsReadBack }
 {}

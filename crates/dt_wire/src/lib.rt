@@ -2,7 +2,8 @@
 #![tactic(auto)]
 
 mod args;
-mod building;
+pub mod building;
+pub mod fault;
 mod fields;
 pub mod laws;
 mod lists;
@@ -11,5 +12,7 @@ mod stop;
 mod values;
 pub mod writing;
 
+pub use building::import;
+pub use fault::WireFault;
 pub use passing::first_bad;
 pub use writing::export;

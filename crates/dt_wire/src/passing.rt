@@ -183,7 +183,7 @@ pub(crate) fn tag(bytes: &[u8], levels: u32) -> Result<(Combiner, &[u8]), &[u8]>
 
 /// Passes over the four bytes before a form.
 #[tactic(auto, unfolding(crate::specs::Skipping::skip_magic))]
-fn magic(bytes: &[u8]) -> Result<&[u8], &[u8]>
+pub(crate) fn magic(bytes: &[u8]) -> Result<&[u8], &[u8]>
     ensures { Leaves result (spec.skip_magic bytes.now) }
 {
     let t = within(bytes, b'd', b'd')?;
@@ -194,7 +194,7 @@ fn magic(bytes: &[u8]) -> Result<&[u8], &[u8]>
 
 /// Passes over a struct without parts, as it stands where no level is left.
 #[tactic(auto, unfolding(crate::specs::Skipping::skip_zeros))]
-fn zeros(bytes: &[u8]) -> Result<&[u8], &[u8]>
+pub(crate) fn zeros(bytes: &[u8]) -> Result<&[u8], &[u8]>
     ensures { Leaves result (spec.skip_zeros bytes.now) }
 {
     let three = within(bytes, 0, 0)?;
