@@ -1,5 +1,6 @@
 -- what becomes of a text is one thing
-use Rattle.std.proofs.Common.{◌≡◌, ◌≢◌, ◌⊎◌, inl, inr, ℕ, Bool, true, false, List, [], ◌∷◌, ◌++◌, take, drop, codes, bytes_eq, slice_index, refl, sym, ap, subst, ◌∙◌, append_assoc, arith}
+use Rattle.std.proofs.Common.{◌≡◌, ◌≢◌, ◌⊎◌, inl, inr, ℕ, Bool, true, false, List, [], ◌∷◌, ◌++◌, take, drop, codes, bytes_eq, slice_index, Result, Ok, Err, MatchResult, refl, sym, ap, subst, ◌∙◌, append_assoc, arith}
+use Rattle.std.specs.Global.{Vec}
 use Rattle.std.specs.List.{flat_map}
 use Rattle.std.proofs.lemmas.List.{take-append-drop}
 use Rattle.std.proofs.lemmas.Slice.Eq.{bytes_eq-Decides}
@@ -12,8 +13,9 @@ use Rattle.dt_cert.specs.Text.{text_of_line, version_line, weights_line, map_lin
 use Rattle.dt_verdict.specs.declared.verdict.NotShown.{NotShown}
 use Rattle.dt_verdict.specs.declared.verdict.NotShown.TheVariants.{Syntax, WrongMap, WrongCost, LowFails, RootBelow, NoMemory}
 use Rattle.dt_verdict.specs.Laws.{MigratedStays, MigratedOrNot, OneFault}
-use Rattle.dt_verdict.specs.Migrated.{IsMigrated, IsOldFault}
+use Rattle.dt_verdict.specs.Migrated.{IsFromFirst, IsMigrated, IsNotMigrated, IsOldFault}
 use Rattle.dt_verdict.specs.Old.{IsOld, IsOldOf, IsOldBegun, IsOldRefused}
+use Rattle.dt_verdict.specs.Verdict.{IsNotShown}
 use Rattle.dt_verdict.proofs.Verdicts.{nothing_shown, one_first_wrong, one_reason}
 
 -- whether a text is of version 1
@@ -72,3 +74,15 @@ one_fault text reason other some others h k = elim (old_or_not text) [
       a.1 ∙ (ap Syntax (one_first_wrong IsOldBegun fewer text a.0 b.0 a.2.1 b.2.1) ∙ sym b.1)
   | inr new ↦ one_reason text reason other some others (h.1 new) (k.1 new)
 ]
+
+-- what is answered to a text of version 1, and why another becomes nothing
+pub first_migrated : (text : List ℕ) (r : Result (Vec ℕ) NotShown) → IsOld text → MatchResult r (λ now. IsFromFirst text now.items) (λ fault. IsOldFault text fault)
+    → MatchResult r (λ now. IsMigrated text now.items) (λ fault. IsNotMigrated text fault)
+first_migrated text (Ok now) old h = inl h
+first_migrated text (Err fault) old h = ((λ _. h), (λ new. absurd (new old)))
+
+pub new_fault : (text : List ℕ) (fault : NotShown) → ¬ IsOld text → IsNotShown text fault → IsNotMigrated text fault
+new_fault text fault new h = ((λ old. absurd (new old)), (λ _. h))
+
+pub no_memory : (text : List ℕ) → IsNotMigrated text NoMemory
+no_memory text = ((λ _. tt), (λ _. tt))

@@ -4,7 +4,7 @@ use Rattle.std.specs.List.{All}
 use Rattle.std.proofs.lemmas.Bool.{cases_lt}
 use Rattle.std.proofs.lemmas.Bool.Decides.{eqb_tells}
 use Rattle.std.proofs.lemmas.Int.{clamps}
-use Rattle.std.proofs.lemmas.Grind.{get_or-set_at}
+use Rattle.std.proofs.lemmas.Grind.{get_or_default_zero, get_or-set_at}
 use Rattle.std.proofs.lemmas.List.{get_or-replicate, get_or-set_other, length-replicate}
 use Rattle.std.proofs.lemmas.List.Elements.{All-nil, All-cons, All-head, All-tail, All-weaker}
 use Rattle.std.proofs.Math.Nat.{mul-le-mul_right}
@@ -23,11 +23,12 @@ use Rattle.dt_verdict.specs.Classed.{greatest_in}
 pub class_inside : (m : List Entry) (start len : ℕ) → IsSegment m start len → class_of m start len ≤ length m * length m
 class_inside m start len is =
     let first = (first_is_least m start len).0 in
-    let n = length m in
-    let all : (len + start) * length m ≤ length m * length m = mul-le-mul_right {m = len + start} {n = length m} (length m) (omega (arith, is.1)) in
-    let split : (len + start) * length m ≡ len * length m + start * length m = omega arith in
-    let some : start * 1 ≤ start * length m = omega arith in
-    omega (arith, first, all, split, some)
+    elim (cases_lt len (length m)) [
+      | inl less ↦ omega (arith, first, is.0, is.1, mul-le-mul_right {m = suc len} {n = length m} (length m) (omega (arith, less)))
+      | inr from ↦
+          let whole : len ≡ length m = omega (arith, from, is.1) in
+          omega (arith, first, is.1, whole, ap (λ k. k * length m) whole)
+    ]
 
 -- one value more
 pub greatest_in-push : (m : List Entry) (values : List Low) (a : Low) (class : ℕ) →
@@ -133,14 +134,14 @@ module _ (m : List Entry) (low : Table) (start len : ℕ) (is : IsSegment m star
 
 table_below : (m : List Entry) (values : List Low) (start len : ℕ) → table_of values start len ≤ greatest_in m values (class_of m start len)
 table_below m [] start len = omega arith
-table_below m (a ∷ values) start len = of (names a start len) refl
+table_below m (a ∷ values) start len = of (names a start len) refl (table_below m values start len)
   where
-    of : (t : Bool) → names a start len ≡ t → cond (names a start len) a.low (table_of values start len) ≤ greatest_in m (a ∷ values) (class_of m start len)
-    of true named =
+    of : (t : Bool) → names a start len ≡ t → table_of values start len ≤ greatest_in m values (class_of m start len) → cond (names a start len) a.low (table_of values start len) ≤ greatest_in m (a ∷ values) (class_of m start len)
+    of true named rest =
         let same = named_is a start len named in
         let class : class_of m a.from (a.to - a.from) ≡ class_of m start len = ap (λ k. class_of m k (a.to - a.from)) same.0 ∙ ap (class_of m start) same.1 in
         omega (arith, clamps, ap (λ t. cond t a.low (table_of values start len)) named, ap (λ t. cond t a.low 0) (eq-eqb (class_of m a.from (a.to - a.from)) (class_of m start len) class))
-    of false named = omega (arith, clamps, ap (λ t. cond t a.low (table_of values start len)) named, table_below m values start len)
+    of false named rest = omega (arith, clamps, ap (λ t. cond t a.low (table_of values start len)) named, rest)
 
 alike_below : (m : List Entry) (values : List Low) (start len : ℕ) → IsSegment m start len → greatest_alike m (table_of values) start len ≤ greatest_in m values (class_of m start len)
 alike_below m values start len is = elim (greatest_of (λ k. alike (segment m k len) (segment m start len)) (λ k. table_of values k len) (length m + 1 - len)) [
@@ -176,18 +177,21 @@ none_raised m numbers is = record {
   greatest = λ class le. ap (λ (xs : List ℕ). get_or xs class 0) is ∙ get_or-replicate {A = ℕ} (length m * length m + 1) class 0 0 (omega (arith, le));
 }
 
-pub one_raised : (m : List Entry) (values : List Low) (a : Low) (numbers : List ℕ) (number : ℕ) → AreRaised m values numbers → number ≡ class_of m a.from (a.to - a.from) → number ≤ length m * length m
-    → AreRaised m (values ++ a ∷ []) (set numbers number (max (get_or numbers number 0) a.low))
-one_raised m values a numbers number are is inside = record { each = length-set numbers number (max (get_or numbers number 0) a.low) ∙ are.each; greatest = greatest }
+pub one_raised : (m : List Entry) (values : List Low) (a : Low) (numbers : List ℕ) (number before value : ℕ) → AreRaised m values numbers → number ≡ class_of m a.from (a.to - a.from) → number ≤ length m * length m
+    → before ≡ get_or numbers number before → value ≡ max a.low before → AreRaised m (values ++ a ∷ []) (set numbers number value)
+one_raised m values a numbers number before value are is inside was raised = record { each = length-set numbers number value ∙ are.each; greatest = greatest }
   where
-    greatest : (class : ℕ) → class ≤ length m * length m → get_or (set numbers number (max (get_or numbers number 0) a.low)) class 0 ≡ greatest_in m (values ++ a ∷ []) class
+    greatest : (class : ℕ) → class ≤ length m * length m → get_or (set numbers number value) class 0 ≡ greatest_in m (values ++ a ∷ []) class
     greatest class le = elim (eqb_tells (class_of m a.from (a.to - a.from)) class) [
       | inl h ↦
           let here : class ≡ number = sym h.1 ∙ sym is in
           omega (
             arith,
             clamps,
-            get_or-set_at numbers number class (max (get_or numbers number 0) a.low) 0 here (omega (arith, are.each, inside)),
+            get_or-set_at numbers number class value 0 here (omega (arith, are.each, inside)),
+            raised,
+            was,
+            get_or_default_zero numbers number before (omega (arith, are.each, inside)),
             are.greatest class le,
             ap (λ k. get_or numbers k 0) here,
             greatest_in-push m values a class,
@@ -197,7 +201,7 @@ one_raised m values a numbers number are is inside = record { each = length-set 
           omega (
             arith,
             clamps,
-            get_or-set_other numbers number class (max (get_or numbers number 0) a.low) 0 (λ e. h.1 (sym is ∙ sym e)),
+            get_or-set_other numbers number class value 0 (λ e. h.1 (sym is ∙ sym e)),
             are.greatest class le,
             greatest_in-push m values a class,
             ap (λ t. cond t a.low 0) h.0,

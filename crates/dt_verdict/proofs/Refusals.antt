@@ -83,6 +83,7 @@ no_more c d line lines e =
     absurd (omega (arith, ap (λ (p : Certificate × Words). length p.1) same))
 
 more_behind : (text : List ℕ) (left : Words) (c : Certificate) → certificate_at (lines_from text 0) ≡ Ok (c, left) → StopsAt IsBegun text left
+unfolding goes_on
 more_behind text left c e =
     let took = certificate_good.ok (lines_from text 0) left c e in
     record {

@@ -54,9 +54,9 @@ middle_length : (c : Certificate) → length (map line_of (middle c)) ≡ length
 middle_length c =
     omega (
       arith,
-      length-map line_of (middle c),
+      length-map (middle c) line_of,
       length-append (map_lines c.entries) ((codes "base" ∷ signed_decimal c.base ∷ []) ∷ tree_line c.tree ∷ (codes "cost" ∷ decimal c.cost ∷ []) ∷ []),
-      length-map entry_line c.entries,
+      length-map c.entries entry_line,
     )
 
 -- the lines of a text from behind its first one on

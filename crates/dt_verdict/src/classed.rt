@@ -21,7 +21,7 @@ fn greatest(alloc: Global, classes: &Classes, values: &[Low]) -> Result<Vec<u64>
     let mut greatest = vec![in alloc; 0; n * n + 1]?;
     'values: for a in values {
         let class = classes.class(a.from, a.to) as usize;
-        greatest[class] = greatest[class].max(a.low);
+        greatest[class] = a.low.max(greatest[class]);
     }
     Ok(greatest)
 }
