@@ -17,4 +17,4 @@ returns-in_ok-write_cert-in-Ok c = record {
 pub returns-in-Err-At : goal.returns-in-Err-At
 returns-in-Err-At c =
     let stops = subst (λ (stop : Stop). Stops c.args.text.now stop (old_at (lines_from c.args.text.now 0))) c.in-Err-At.field-0-is c.in-Err-At.ensures in
-    old_refused c.args.text.now (lines_from c.args.text.now c.in-Err-At.at) c.line_number.result stops c.line_number.ensures
+    old_refused c.args.text.now (lines_from c.args.text.now c.in-Err-At.at) c.line_number.result stops (cc (c.line_number.ensures, c.in-Err-At.at-is))
