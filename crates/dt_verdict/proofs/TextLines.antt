@@ -75,9 +75,11 @@ pieces_joined : (pieces : Words) → (rest : List ℕ) × (join_with_byte line_f
 pieces_joined [] = ([], refl)
 pieces_joined (piece ∷ []) = (piece, refl)
 pieces_joined (piece ∷ next ∷ pieces) =
-    let h = pieces_joined (next ∷ pieces) in
-    (h.0, ap (λ (t : List ℕ). piece ++ line_feed ∷ t) h.1
-    ∙ (sym (append_assoc piece (line_feed ∷ []) (flat_map ended (all_but_last (next ∷ pieces)) ++ h.0)) ∙ sym (append_assoc (ended piece) (flat_map ended (all_but_last (next ∷ pieces))) h.0)))
+    let h = pieces_joined (next ∷ pieces) in (
+      h.0,
+      ap (λ (t : List ℕ). piece ++ line_feed ∷ t) h.1
+          ∙ (sym (append_assoc piece (line_feed ∷ []) (flat_map ended (all_but_last (next ∷ pieces)) ++ h.0)) ∙ sym (append_assoc (ended piece) (flat_map ended (all_but_last (next ∷ pieces))) h.0)),
+    )
 
 pub lines_and_rest : (text : List ℕ) → (rest : List ℕ) × (text ≡ flat_map ended (lines_in text) ++ rest)
 lines_and_rest text =
