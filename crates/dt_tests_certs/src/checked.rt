@@ -5,51 +5,78 @@ use dt_verdict::{NotShown, check};
 use std::alloc::Global;
 use std::test::Fail;
 
+pub(crate) const TWO: &[u8] = b"dtcert 2\n";
+
+const THREE: &[u8] = b"dtcert 3\n";
+
 /// Three ints at an even step, up to the third, and the lines of base and tree.
-const TWO: &[u8] = b"dtcert 2
-weights 1 3 2 1 2 2
+pub(crate) const FRONT: &[u8] = b"weights 1 3 2 1 2 2
 map 3
 entry MPI_INT 0
 entry MPI_INT 8
 ";
 
-const THIRD: &[u8] = b"entry MPI_INT 16\n";
+pub(crate) const THIRD: &[u8] = b"entry MPI_INT 16\n";
 
-const TREE: &[u8] = b"base 0
+pub(crate) const TREE: &[u8] = b"base 0
 tree vector 3 1 8 leaf MPI_INT
 ";
 
-const COST: &[u8] = b"cost 4\n";
+pub(crate) const COST: &[u8] = b"cost 4\n";
 
-const LOWS: &[u8] = b"low 0 1 1
-low 1 2 1
-low 2 3 1
-low 0 2 4
-low 1 3 4
-low 0 3 4
-";
+/// The lines of the values of all six segments.
+pub(crate) const LOWS: [&[u8]; 6] = [
+    b"low 0 1 1\n",
+    b"low 1 2 1\n",
+    b"low 2 3 1\n",
+    b"low 0 2 4\n",
+    b"low 1 3 4\n",
+    b"low 0 3 4\n",
+];
 
-const END: &[u8] = b"end\n";
+pub(crate) const END: &[u8] = b"end\n";
 
-/// The answer to a text in parts.
-fn checked(alloc: Global, parts: &[&[u8]]) -> Result<Result<u64, NotShown>, NoMemory> {
+/// Parts, one behind another.
+pub(crate) fn joined(alloc: Global, parts: &[&[u8]]) -> Result<Vec<u8>, NoMemory> {
     let mut text = Vec::new(alloc);
     for part in parts {
         text.extend_from_slice(part)?;
     }
+    Ok(text)
+}
+
+/// The answer to a text in parts.
+fn checked(alloc: Global, parts: &[&[u8]]) -> Result<Result<u64, NotShown>, NoMemory> {
+    let text = joined(alloc, parts)?;
     Ok(check(alloc, &text))
 }
 
 /// The answer to a text with these lines of values.
 fn of_lows(alloc: Global, lows: &[u8]) -> Result<Result<u64, NotShown>, NoMemory> {
-    checked(alloc, &[TWO, THIRD, TREE, COST, lows, END])
+    checked(alloc, &[TWO, FRONT, THIRD, TREE, COST, lows, END])
+}
+
+/// The answer where one line of the values is left out; all stand, where no line has this number.
+fn without(alloc: Global, left_out: usize) -> Result<Result<u64, NotShown>, NoMemory> {
+    let mut lows = Vec::new(alloc);
+    for (k, line) in LOWS.iter().enumerate() {
+        if k != left_out {
+            lows.extend_from_slice(line)?;
+        }
+    }
+    of_lows(alloc, &lows)
+}
+
+/// The answer to a text with these lines of values of classes.
+fn of_classes(alloc: Global, values: &[u8]) -> Result<Result<u64, NotShown>, NoMemory> {
+    checked(alloc, &[THREE, FRONT, THIRD, TREE, COST, values, END])
 }
 
 /// A whole table, and a sparse one.
 #[test]
 fn texts_that_hold(rt: HostRuntime) -> Result<(), Fail> {
     let alloc = rt.alloc();
-    assert!(rt; of_lows(alloc, LOWS)? == Ok(4));
+    assert!(rt; without(alloc, 6)? == Ok(4));
     assert!(rt; of_lows(alloc, b"low 0 1 1\nlow 0 3 4\n")? == Ok(4));
     assert!(rt; check(alloc, SHORT) == Ok(4));
     Ok(())
@@ -73,6 +100,30 @@ fn texts_of_wrong_tables(rt: HostRuntime) -> Result<(), Fail> {
     Ok(())
 }
 
+/// With one line of the values left out: some segment needs the first two and the last one.
+#[test]
+fn values_left_out(rt: HostRuntime) -> Result<(), Fail> {
+    let alloc = rt.alloc();
+    assert!(rt; without(alloc, 0)? == Err(NotShown::LowFails { from: 0, to: 2 }));
+    assert!(rt; without(alloc, 1)? == Err(NotShown::LowFails { from: 1, to: 3 }));
+    for k in 2..5 {
+        assert!(rt; without(alloc, k)? == Ok(4));
+    }
+    assert!(rt; without(alloc, 5)? == Err(NotShown::RootBelow { low: 0, cost: 4 }));
+    Ok(())
+}
+
+/// Values of classes: one too high by one, and a line that isn't the first of its class.
+#[test]
+fn texts_of_classes(rt: HostRuntime) -> Result<(), Fail> {
+    let alloc = rt.alloc();
+    let pair = Err(NotShown::LowFails { from: 0, to: 2 });
+    assert!(rt; of_classes(alloc, b"class 0 1 1\nclass 0 2 5\nclass 0 3 4\n")? == pair);
+    assert!(rt; of_classes(alloc, b"class 0 1 1\nclass 1 2 1\nclass 0 3 4\n")? == at(11));
+    assert!(rt; of_classes(alloc, b"class 0 1 1\nclass 0 3 4\nclass 0 2 4\n")? == at(12));
+    Ok(())
+}
+
 /// Another cost, and another third entry.
 #[test]
 fn texts_of_wrong_numbers(rt: HostRuntime) -> Result<(), Fail> {
@@ -82,8 +133,8 @@ fn texts_of_wrong_numbers(rt: HostRuntime) -> Result<(), Fail> {
         found: 4,
     });
     let map = Err(NotShown::WrongMap { at: 2 });
-    assert!(rt; checked(alloc, &[TWO, THIRD, TREE, b"cost 5\n", LOWS, END])? == cost);
-    assert!(rt; checked(alloc, &[TWO, b"entry MPI_INT 17\n", TREE, COST, LOWS, END])? == map);
+    assert!(rt; checked(alloc, &[TWO, FRONT, THIRD, TREE, b"cost 5\n", END])? == cost);
+    assert!(rt; checked(alloc, &[TWO, FRONT, b"entry MPI_INT 17\n", TREE, COST, END])? == map);
     Ok(())
 }
 
@@ -96,10 +147,10 @@ fn at(line: u64) -> Result<u64, NotShown> {
 #[test]
 fn texts_of_wrong_lines(rt: HostRuntime) -> Result<(), Fail> {
     let alloc = rt.alloc();
-    assert!(rt; checked(alloc, &[TWO, THIRD, TREE, COST, LOWS])? == at(16));
-    assert!(rt; checked(alloc, &[TWO, THIRD, TREE, COST, LOWS, b"end"])? == at(16));
-    assert!(rt; checked(alloc, &[TWO, THIRD, TREE, COST, LOWS, END, END])? == at(17));
-    assert!(rt; checked(alloc, &[TWO, THIRD, TREE, COST, LOWS, END, b" "])? == at(17));
+    assert!(rt; checked(alloc, &[TWO, FRONT, THIRD, TREE, COST])? == at(10));
+    assert!(rt; checked(alloc, &[TWO, FRONT, THIRD, TREE, COST, b"end"])? == at(10));
+    assert!(rt; checked(alloc, &[TWO, FRONT, THIRD, TREE, COST, END, END])? == at(11));
+    assert!(rt; checked(alloc, &[TWO, FRONT, THIRD, TREE, COST, END, b" "])? == at(11));
     assert!(rt; of_lows(alloc, b"low 1 2 1\nlow 0 1 1\n")? == at(11));
     assert!(rt; of_lows(alloc, b"class 0 1 1\n")? == at(10));
     assert!(rt; of_lows(alloc, b"low 0 1 01\n")? == at(10));
@@ -108,7 +159,7 @@ fn texts_of_wrong_lines(rt: HostRuntime) -> Result<(), Fail> {
     Ok(())
 }
 
-const SHORT: &[u8] = b"dtcert 3
+pub(crate) const SHORT: &[u8] = b"dtcert 3
 weights 1 3 2 1 2 2
 map 3
 entry MPI_INT 0
@@ -134,14 +185,25 @@ fn cut_line(text: &[u8]) -> u64 {
     line
 }
 
-/// Every proper prefix lacks the line in which it ends.
+/// Whether every proper prefix of a text lacks the line in which it ends.
+fn lacks_its_last_line(alloc: Global, text: &[u8]) -> bool {
+    for len in 0..text.len() {
+        let front = &text[..len];
+        if check(alloc, front) != at(cut_line(front)) {
+            return false;
+        }
+    }
+    true
+}
+
+/// Proper prefixes, of either version.
 #[test]
 fn prefixes(rt: HostRuntime) -> Result<(), Fail> {
     let alloc = rt.alloc();
-    for len in 0..SHORT.len() {
-        let text = &SHORT[..len];
-        assert!(rt; check(alloc, text) == at(cut_line(text)));
-    }
+    let lows = joined(alloc, &LOWS)?;
+    let segments = joined(alloc, &[TWO, FRONT, THIRD, TREE, COST, &lows, END])?;
+    assert!(rt; lacks_its_last_line(alloc, &segments));
+    assert!(rt; lacks_its_last_line(alloc, SHORT));
     Ok(())
 }
 

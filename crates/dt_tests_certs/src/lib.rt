@@ -6,6 +6,8 @@ mod checked;
 #[cfg(test)]
 mod judged;
 #[cfg(test)]
+mod migrated;
+#[cfg(test)]
 mod tables;
 #[cfg(test)]
 mod written;

@@ -32,7 +32,7 @@ fn is_written(alloc: Global, places: &[i64], text: &[u8]) -> Result<bool, NoMemo
     Ok(written(alloc, places)?.is_some_and(|written| *written == *text))
 }
 
-const NOTHING: &[u8] = b"dtcert 3
+pub(crate) const NOTHING: &[u8] = b"dtcert 3
 weights 1 3 2 1 2 2
 map 0
 base 0

@@ -23,10 +23,12 @@ use Rattle.dt_spelling.proofs.Numbers.{both_true}
 use Rattle.dt_cert.specs.Certificate.{Certificate, Version, BySegments, ByClasses}
 use Rattle.dt_cert.specs.Shown.{FollowsRuleIfAny, IsWritable}
 use Rattle.dt_cert.specs.Text.{line_feed, version_line, weights_line, entry_line, tree_line, value_line, map_lines, lines_of}
+use Rattle.dt_tree.specs.Weights.{Weights, AreLight}
+use Rattle.dt_verdict.specs.Old.{old_lines}
 use Rattle.dt_verdict.proofs.LineWords.{line_of}
 use Rattle.dt_verdict.proofs.TextLines.{IsFeedless}
 
-abbrev AreFeedless : Words → Type 0
+abbrev pub AreFeedless : Words → Type 0
 AreFeedless words = AllByRecursion IsFeedless words
 
 not_true : (b : Bool) → not b ≡ true → b ≡ false
@@ -126,29 +128,36 @@ lines_joined : (xs ys : List Words) → AreFeedless (map line_of xs) → AreFeed
 lines_joined [] ys h k = k
 lines_joined (x ∷ xs) ys h k = (h.0, lines_joined xs ys h.1 k)
 
+weights_free : (w : Weights) → AreLight w → IsFeedless (line_of (weights_line w))
+weights_free w light =
+    joined_free (weights_line w) (
+      passes (codes "weights") refl,
+      (number_free w.leaf (omega (arith, clamps, light)), (number_free w.vector (omega (arith, clamps, light)), (number_free w.index (omega (arith, clamps, light)), (number_free w.place (omega (arith, clamps, light)), (number_free w.group (omega (arith, clamps, light)), (number_free w.part (omega (arith, clamps, light)), tt)))))),
+    )
+
+map_free : (es : List Entry) → length es ≤ 1024 → All EntryFits es → AreFeedless (map line_of (map_lines es))
+map_free es few fit = (joined_free (codes "map" ∷ decimal (length es) ∷ []) (passes (codes "map") refl, (number_free (length es) (omega arith), tt)), entries_free es fit)
+
+pub old_free : (w : Weights) (m : List Entry) → AreLight w → length m ≤ 1024 → All EntryFits m → AreFeedless (map line_of (old_lines w m))
+old_free w m light few fit = (passes (codes "dtcert 1") refl, (weights_free w light, map_free m few fit))
+
 pub lines_free : (c : Certificate) → IsWritable c → AreFeedless (map line_of (lines_of c))
 lines_free c h =
-    let w = c.weights in
-    let light = h.light in
     let few = h.few in
     let low = h.base_low in
     let high = h.base_high in (
       joined_free (version_line c.version) (version_free c.version),
       (
-        joined_free (weights_line w) (
-          passes (codes "weights") refl,
-          (number_free w.leaf (omega (arith, clamps, light)), (number_free w.vector (omega (arith, clamps, light)), (number_free w.index (omega (arith, clamps, light)), (number_free w.place (omega (arith, clamps, light)), (number_free w.group (omega (arith, clamps, light)), (number_free w.part (omega (arith, clamps, light)), tt)))))),
-        ),
-        lines_joined (map_lines c.entries) _
-            (joined_free (codes "map" ∷ decimal (length c.entries) ∷ []) (passes (codes "map") refl, (number_free (length c.entries) (omega arith), tt)), entries_free c.entries h.fit) (
-              joined_free (codes "base" ∷ signed_decimal c.base ∷ []) (passes (codes "base") refl, (signed_free c.base (omega (arith, ints, clamps, low, high)), tt)),
-              (
-                joined_free (tree_line c.tree) (tree_line_free c.tree h.rule),
-                (
-                  joined_free (codes "cost" ∷ decimal c.cost ∷ []) (passes (codes "cost") refl, (number_free c.cost h.cost, tt)),
-                  values_free c.version c.entries c.values h.few h.members h.low,
-                ),
-              ),
+        weights_free c.weights h.light,
+        lines_joined (map_lines c.entries) _ (map_free c.entries h.few h.fit) (
+          joined_free (codes "base" ∷ signed_decimal c.base ∷ []) (passes (codes "base") refl, (signed_free c.base (omega (arith, ints, clamps, low, high)), tt)),
+          (
+            joined_free (tree_line c.tree) (tree_line_free c.tree h.rule),
+            (
+              joined_free (codes "cost" ∷ decimal c.cost ∷ []) (passes (codes "cost") refl, (number_free c.cost h.cost, tt)),
+              values_free c.version c.entries c.values h.few h.members h.low,
             ),
+          ),
+        ),
       ),
     )

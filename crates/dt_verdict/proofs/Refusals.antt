@@ -6,15 +6,16 @@ use Rattle.dt_spelling.specs.Spelling.{Word, Words}
 use Rattle.dt_cert.specs.Certificate.{Certificate}
 use Rattle.dt_cert.specs.Shown.{IsWritable}
 use Rattle.dt_cert.specs.Text.{line_feed, lines_of, text_of}
-use Rattle.dt_verdict.specs.Cut.{lines_in, lines_from}
+use Rattle.dt_verdict.specs.Cut.{ended, lines_in, lines_from}
 use Rattle.dt_verdict.specs.declared.read.ReadFault.TheVariants.{Syntax}
 use Rattle.dt_verdict.specs.Fault.{IsTextOf, IsBegun, IsRefused}
 use Rattle.dt_verdict.specs.Whole.{certificate_at, is_ended, all_of, text_read}
 use Rattle.dt_verdict.proofs.Feedless.{lines_free}
 use Rattle.dt_verdict.proofs.LineWords.{line_of}
-use Rattle.dt_verdict.proofs.TextLines.{ended, ends_so, lines_back, lines_again}
+use Rattle.dt_verdict.proofs.Stopping.{StopsAt, GoesOn, all_lines, stuck}
+use Rattle.dt_verdict.proofs.TextLines.{ends_so, lines_back, lines_again}
 use Rattle.dt_verdict.proofs.WholeAgain.{certificate_again}
-use Rattle.dt_verdict.proofs.WholeGoods.{certificate_good}
+use Rattle.dt_verdict.proofs.WholeGoods.{IsText, certificate_good}
 
 -- the text of a certificate and its lines
 text_is : (c : Certificate) → text_of c ≡ flat_map ended (map line_of (lines_of c))
@@ -34,10 +35,6 @@ some_ended (line ∷ lines) some = let h = ended_front line lines in ap is_ended
 
 text_ended : (c : Certificate) → is_ended (text_of c) ≡ true
 text_ended c = ap is_ended (text_is c) ∙ some_ended (map line_of (lines_of c)) (omega arith)
-
-all_lines : (text : List ℕ) → lines_from text 0 ≡ lines_in text
-unfolding lines_from
-all_lines text = refl
 
 pub read_again : (text : List ℕ) (c : Certificate) → IsTextOf text c → text_read text ≡ Ok c
 unfolding text_read
@@ -69,49 +66,38 @@ read_means text c e =
     ((took.has).1, lines_back text h.0 ∙ (ap (flat_map ended) lines ∙ sym (text_is c)))
 
 -- where reading stops
-pub record StopsAt (text : List ℕ) (left : Words) : Type 0 where
-  pub before : Words
-  pub whole : lines_in text ≡ before ++ left
-  pub begun : IsBegun before
-  pub wrong : (next : Word) (after : Words) → left ≡ next ∷ after → ¬ IsBegun (before ++ next ∷ [])
-
 begun_by : (c : Certificate) (before behind : Words) → IsWritable c → map line_of (lines_of c) ≡ before ++ behind → IsBegun before
 begun_by c before behind h is = record { certificate = c; behind = behind; writable = h; written = text_lines c h ∙ is }
 
--- the certificate that lines begin with one more is read
-read_begun : (before : Words) (next : Word) → (b : IsBegun (before ++ next ∷ [])) → certificate_at (before ++ next ∷ b.behind) ≡ Ok (b.certificate, [])
-read_begun before next b =
-    ap certificate_at (sym (append_assoc before (next ∷ []) b.behind) ∙ (sym b.written ∙ text_lines b.certificate b.writable)) ∙ certificate_again b.certificate b.writable
-
-stuck : (text : List ℕ) (left : Words) → certificate_at (lines_from text 0) ≡ Err left → StopsAt text left
-stuck text left e =
-    let h = certificate_good.err (lines_from text 0) left e in
-    let took = certificate_good.ok (h.front ++ h.next ∷ h.more) [] h.value h.goes_on in
-    record {
-      before = h.front;
-      whole = sym (all_lines text) ∙ h.whole;
-      begun = begun_by h.value h.front (h.next ∷ h.more) (took.has).1 (sym (took.has).0 ∙ (sym (append-nil took.front) ∙ sym took.whole));
-      wrong = λ next after is b. cc (read_begun h.front next b, h.wrong next after b.behind is);
-    }
+goes_on : (before : Words) → IsBegun before → GoesOn certificate_at before
+goes_on before b = record {
+  behind = b.behind;
+  value = b.certificate;
+  rest = [];
+  takes = ap certificate_at (sym b.written ∙ text_lines b.certificate b.writable) ∙ certificate_again b.certificate b.writable;
+}
 
 no_more : (c d : Certificate) (line : Word) (lines : Words) → (let r : Result (Certificate × Words) Words = Ok (c, []) in r ≡ Ok (d, line ∷ lines)) → ⊥
 no_more c d line lines e =
     let same : ◌≡◌ {A = Certificate × Words} (c, []) (d, line ∷ lines) = cc in
     absurd (omega (arith, ap (λ (p : Certificate × Words). length p.1) same))
 
-more_behind : (text : List ℕ) (left : Words) (c : Certificate) → certificate_at (lines_from text 0) ≡ Ok (c, left) → StopsAt text left
+more_behind : (text : List ℕ) (left : Words) (c : Certificate) → certificate_at (lines_from text 0) ≡ Ok (c, left) → StopsAt IsBegun text left
+unfolding goes_on
 more_behind text left c e =
     let took = certificate_good.ok (lines_from text 0) left c e in
     record {
       before = took.front;
       whole = sym (all_lines text) ∙ took.whole;
       begun = begun_by c took.front [] (took.has).1 (sym (took.has).0 ∙ sym (append-nil took.front));
-      wrong = λ next after is b. no_more b.certificate c next b.behind (sym (read_begun took.front next b) ∙ took.again (next ∷ b.behind));
+      wrong = λ next after is b.
+          no_more b.certificate c next b.behind
+          (sym (goes_on (took.front ++ next ∷ []) b).takes ∙ (ap certificate_at (append_assoc took.front (next ∷ []) b.behind) ∙ took.again (next ∷ b.behind)));
     }
 
-pub stops_at : (text : List ℕ) (left : Words) → text_read text ≡ Err left → StopsAt text left
+pub stops_at : (text : List ℕ) (left : Words) → text_read text ≡ Err left → StopsAt IsBegun text left
 unfolding text_read
-stops_at text left e = elim (all_err (is_ended text) (certificate_at (lines_from text 0)) left e) [ inl h ↦ stuck text left h | inr h ↦ more_behind text left h.0 h.1 ]
+stops_at text left e = elim (all_err (is_ended text) (certificate_at (lines_from text 0)) left e) [ inl h ↦ stuck IsText certificate_at certificate_good IsBegun (λ c before behind is. begun_by c before behind is.1 (sym is.0)) goes_on text left h | inr h ↦ more_behind text left h.0 h.1 ]
 
 pub refused : (text : List ℕ) (left : Words) (line : ℕ) → text_read text ≡ Err left → line ≡ length (lines_in text) - length left + 1 → IsRefused text (Syntax line)
 refused text left line e place =

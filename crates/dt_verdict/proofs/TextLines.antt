@@ -7,13 +7,9 @@ use Rattle.std.proofs.lemmas.Slice.Eq.{bytes_eq-Decides}
 use Rattle.std.proofs.Math.Seq.{drop-append_seam}
 use Rattle.dt_cert.specs.Text.{line_feed}
 use Rattle.dt_spelling.specs.Spelling.{Word, Words}
-use Rattle.dt_verdict.specs.Cut.{all_but_last, lines_in}
+use Rattle.dt_verdict.specs.Cut.{all_but_last, ended, lines_in}
 use Rattle.dt_verdict.specs.Whole.{is_ended}
 use Rattle.dt_verdict.proofs.Cutting.{front_piece}
-
--- a line and its line feed
-abbrev pub ended : Word → List ℕ
-ended line = line ++ line_feed ∷ []
 
 -- a text that ends with a line feed is its lines
 abbrev IsFeed : ℕ → Bool
@@ -63,9 +59,29 @@ ends_so front =
 abbrev pub IsFeedless : Word → Type 0
 IsFeedless word = All (λ b. (b == line_feed) ≡ false) word
 
+-- and what stands behind them
+pub lines_before : (lines : Words) (rest : List ℕ) → AllByRecursion IsFeedless lines → lines_in (flat_map ended lines ++ rest) ≡ lines ++ lines_in rest
+lines_before [] rest h = refl
+lines_before (line ∷ lines) rest h =
+    ap lines_in (append_assoc (ended line) (flat_map ended lines) rest ∙ append_assoc line (line_feed ∷ []) (flat_map ended lines ++ rest))
+    ∙ (ap all_but_last (slice_split_at IsFeed line line_feed (flat_map ended lines ++ rest) h.0 refl)
+    ∙ (front_piece line (flat_map ended lines ++ rest) ∙ ap (λ (ws : Words). line ∷ ws) (lines_before lines rest h.1)))
+
 pub lines_again : (lines : Words) → AllByRecursion IsFeedless lines → lines_in (flat_map ended lines) ≡ lines
-lines_again [] h = refl
-lines_again (line ∷ lines) h =
-    ap lines_in (append_assoc line (line_feed ∷ []) (flat_map ended lines))
-    ∙ (ap all_but_last (slice_split_at IsFeed line line_feed (flat_map ended lines) h.0 refl)
-    ∙ (front_piece line (flat_map ended lines) ∙ ap (λ (ws : Words). line ∷ ws) (lines_again lines h.1)))
+lines_again lines h = ap lines_in (sym (append-nil (flat_map ended lines))) ∙ (lines_before lines [] h ∙ append-nil lines)
+
+-- any text is its lines and what stands behind the last line feed
+pieces_joined : (pieces : Words) → (rest : List ℕ) × (join_with_byte line_feed pieces ≡ flat_map ended (all_but_last pieces) ++ rest)
+pieces_joined [] = ([], refl)
+pieces_joined (piece ∷ []) = (piece, refl)
+pieces_joined (piece ∷ next ∷ pieces) =
+    let h = pieces_joined (next ∷ pieces) in (
+      h.0,
+      ap (λ (t : List ℕ). piece ++ line_feed ∷ t) h.1
+          ∙ (sym (append_assoc piece (line_feed ∷ []) (flat_map ended (all_but_last (next ∷ pieces)) ++ h.0)) ∙ sym (append_assoc (ended piece) (flat_map ended (all_but_last (next ∷ pieces))) h.0)),
+    )
+
+pub lines_and_rest : (text : List ℕ) → (rest : List ℕ) × (text ≡ flat_map ended (lines_in text) ++ rest)
+lines_and_rest text =
+    let h = pieces_joined (slice_split IsFeed text) in
+    (h.0, sym (join_with_byte-slice_split line_feed text) ∙ h.1)

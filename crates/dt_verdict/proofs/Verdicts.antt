@@ -15,7 +15,7 @@ use Rattle.dt_cert.specs.Judged.{IsBroken, IsFirstDifference, placed}
 use Rattle.dt_cert.specs.Shown.{Holds, StandsFor, IsShown}
 use Rattle.dt_verdict.specs.declared.verdict.NotShown.{NotShown}
 use Rattle.dt_verdict.specs.declared.verdict.NotShown.TheVariants.{Syntax, WrongMap, WrongCost, LowFails, RootBelow, NoMemory}
-use Rattle.dt_verdict.specs.Fault.{IsTextOf, IsBegun, IsWrongLine}
+use Rattle.dt_verdict.specs.Fault.{IsTextOf, IsBegun, IsFirstWrong, IsWrongLine}
 use Rattle.dt_verdict.specs.Laws.{OneCertificate, OneWrongLine, OneReason, NothingShown}
 use Rattle.dt_verdict.specs.Verdict.{Breaks, IsNotShown}
 use Rattle.dt_verdict.proofs.Refusals.{read_again}
@@ -28,9 +28,6 @@ pub one_certificate : OneCertificate
 one_certificate text c d h k = ok_same c d (sym (read_again text c h) ∙ read_again text d k)
 
 -- one wrong line
-fewer : (before left : Words) → IsBegun (before ++ left) → IsBegun before
-fewer before left b = record { certificate = b.certificate; behind = left ++ b.behind; writable = b.writable; written = b.written ∙ append_assoc before left b.behind }
-
 -- of two cuts of one list, the longer front goes on with the other's next one
 goes_on : (before left other rest : Words) → before ++ left ≡ other ++ rest → length before < length other → (next : Word) × (after more : Words) × (left ≡ next ∷ after) × (other ≡ (before ++ next ∷ []) ++ more)
 goes_on [] left [] rest e lt = absurd (omega arith)
@@ -42,19 +39,26 @@ goes_on (line ∷ before) left (line' ∷ other) rest e lt =
     let h = goes_on before left other rest tails (omega arith) in
     (h.0, h.1, h.2, h.3, ap (λ (w : Word). w ∷ other) (sym same) ∙ ap (λ (ws : Words). line ∷ ws) h.4)
 
-not_later : (text : List ℕ) (line other : ℕ) → (h : IsWrongLine text line) → (k : IsWrongLine text other) → length h.before < length k.before → ⊥
-not_later text line other h k lt =
-    let s = goes_on h.before h.left k.before k.left (sym h.whole ∙ k.whole) lt in
-    h.wrong s.0 s.1 s.3 (fewer (h.before ++ s.0 ∷ []) s.2 (subst IsBegun s.4 k.begun))
+module _ (Begin : Words → Type 0) (fewer : (before left : Words) → Begin (before ++ left) → Begin before) where
+  not_later : (text : List ℕ) (line other : ℕ) → (h : IsFirstWrong Begin text line) → (k : IsFirstWrong Begin text other) → length h.before < length k.before → ⊥
+  not_later text line other h k lt =
+      let s = goes_on h.before h.left k.before k.left (sym h.whole ∙ k.whole) lt in
+      h.wrong s.0 s.1 s.3 (fewer (h.before ++ s.0 ∷ []) s.2 (subst Begin s.4 k.begun))
+
+  pub one_first_wrong : (text : List ℕ) (line other : ℕ) → IsFirstWrong Begin text line → IsFirstWrong Begin text other → line ≡ other
+  one_first_wrong text line other h k = elim (lt_or_ge (length h.before) (length k.before)) [
+    | inl lt ↦ absurd (not_later text line other h k lt)
+    | inr ge ↦ elim (lt_or_ge (length k.before) (length h.before)) [
+      | inl lt ↦ absurd (not_later text other line k h lt)
+      | inr le ↦ let a = h.place in let b = k.place in omega (arith, a, b, ge, le)
+    ]
+  ]
+
+fewer : (before left : Words) → IsBegun (before ++ left) → IsBegun before
+fewer before left b = record { certificate = b.certificate; behind = left ++ b.behind; writable = b.writable; written = b.written ∙ append_assoc before left b.behind }
 
 pub one_wrong_line : OneWrongLine
-one_wrong_line text line other h k = elim (lt_or_ge (length h.before) (length k.before)) [
-  | inl lt ↦ absurd (not_later text line other h k lt)
-  | inr ge ↦ elim (lt_or_ge (length k.before) (length h.before)) [
-    | inl lt ↦ absurd (not_later text other line k h lt)
-    | inr le ↦ let a = h.place in let b = k.place in omega (arith, a, b, ge, le)
-  ]
-]
+one_wrong_line = one_first_wrong IsBegun fewer
 
 -- a certificate that holds breaks no rule
 same_differ : (es : List Entry) (at : ℕ) → IsFirstDifference es es at → ⊥

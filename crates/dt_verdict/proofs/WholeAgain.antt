@@ -41,7 +41,7 @@ entries_again [] behind fit = refl
 entries_again (x ∷ es) behind fit =
     rw (entry_again_in x (All-head EntryFits x es fit)) (rw (entries_again es behind (All-tail EntryFits x es fit)) refl)
 
-map_again : (es : List Entry) (behind : Words) → All EntryFits es → length es ≤ 1024 → map_at (map line_of (map_lines es) ++ behind) ≡ Ok (es, behind)
+pub map_again : (es : List Entry) (behind : Words) → All EntryFits es → length es ≤ 1024 → map_at (map line_of (map_lines es) ++ behind) ≡ Ok (es, behind)
 unfolding map_at bind
 map_again es behind fit few =
     rw (number_again (codes "map") 1024 (length es) (passes_spaceless (codes "map") refl) few (omega arith)) (entries_again es behind fit)

@@ -19,15 +19,19 @@ pub record IsBegun (lines : Words) : Type 0 where
   pub writable : IsWritable certificate
   pub written : lines_in (text_of certificate) ≡ lines ++ behind
 
--- The lines before this one, from 1, begin the text of some such certificate. With this one they don't, or no line of the text has this number:
--- it is missing, or has no line feed.
-pub record IsWrongLine (text : List ℕ) (line : ℕ) : Type 0 where
+-- The lines before this one, from 1, begin texts that are wanted. With this one they don't, or no line of the text has this number: it is
+-- missing, or has no line feed.
+pub record IsFirstWrong (Begin : Words → Type 0) (text : List ℕ) (line : ℕ) : Type 0 where
   pub before : Words
   pub left : Words
   pub whole : lines_in text ≡ before ++ left
   pub place : line ≡ length before + 1
-  pub begun : IsBegun before
-  pub wrong : (next : Word) (after : Words) → left ≡ next ∷ after → ¬ IsBegun (before ++ next ∷ [])
+  pub begun : Begin before
+  pub wrong : (next : Word) (after : Words) → left ≡ next ∷ after → ¬ Begin (before ++ next ∷ [])
+
+-- the first line with which a text isn't that of such a certificate
+abbrev pub IsWrongLine : List ℕ → ℕ → Type 0
+IsWrongLine text line = IsFirstWrong IsBegun text line
 
 -- a text is that of no such certificate, and this is the first wrong line; want of memory tells nothing
 abbrev pub IsRefused : List ℕ → ReadFault → Type 0

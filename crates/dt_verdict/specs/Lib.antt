@@ -8,3 +8,6 @@ pub mod Whole
 pub mod Fault
 pub mod Verdict
 pub mod Laws
+pub mod Old
+pub mod Classed
+pub mod Migrated

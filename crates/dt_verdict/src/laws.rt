@@ -1,5 +1,5 @@
 //! Laws of the texts of certificates, stated over their definitions. The functions do nothing.
-ghost use Rattle.dt_verdict.specs.Laws.{NothingShown, OneCertificate, OneReason, OneWrongLine};
+ghost use Rattle.dt_verdict.specs.Laws.{MigratedOrNot, MigratedStays, NothingShown, OneCertificate, OneFault, OneReason, OneWrongLine};
 
 /// A text is that of one certificate at most.
 pub fn one_certificate()
@@ -19,4 +19,19 @@ pub fn one_reason()
 /// A text for which `check` has a reason shows no certificate.
 pub fn nothing_shown()
     ensures { NothingShown }
+{}
+
+/// What `migrate` makes of a text shows a certificate, in version 3, and `migrate` leaves it as it is.
+pub fn migrated_stays()
+    ensures { MigratedStays }
+{}
+
+/// A text of which `migrate` makes another has no reason why not.
+pub fn migrated_or_not()
+    ensures { MigratedOrNot }
+{}
+
+/// There is one reason at most why `migrate` makes nothing of a text.
+pub fn one_fault()
+    ensures { OneFault }
 {}

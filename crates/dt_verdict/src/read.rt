@@ -35,7 +35,7 @@ fn lines_left(text: &[u8], at: usize) -> u64
 }
 
 /// The number of the line that begins at a byte.
-fn line_number(text: &[u8], at: usize) -> u64
+pub(crate) fn line_number(text: &[u8], at: usize) -> u64
     ensures { result ≡ length (lines_from text.now 0) - length (lines_from text.now at) + 1 }
 {
     lines_left(text, 0).saturating_sub(lines_left(text, at)) + 1

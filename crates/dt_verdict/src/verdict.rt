@@ -1,10 +1,13 @@
 //! What the text of a certificate shows.
 ghost use Rattle.std.specs.Prelude.{ℕ, List, MatchResult};
+ghost use Rattle.dt_cert.specs.Read.{certificate_in};
+ghost use Rattle.dt_cert.specs.Shown.{IsShown};
 ghost use Rattle.dt_verdict.specs.Verdict.{Breaks, IsLeastShown, IsNotShown};
 
 use crate::read::{ReadFault, read_cert};
-use dt_cert::{Failing, judge};
-use std::alloc::Global;
+use dt_cert::{Certificate, Failing, judge};
+use dt_kinds::NoMemory;
+use std::alloc::{AllocError, Global};
 use thiserror::Error;
 
 /// Why a text doesn't show that a tree is least: the first reason, in this order.
@@ -29,6 +32,28 @@ pub enum NotShown {
     NoMemory,
 }
 
+impl From<NoMemory> for NotShown {
+    ghost use Rattle.std.specs.Prelude.{◌≡◌};
+    ghost use Rattle.dt_verdict.specs.declared.verdict.NotShown.TheVariants.{NoMemory as WithoutMemory};
+
+    ghost from_gives = { λ _ fault. fault ≡ WithoutMemory };
+
+    fn from(_error: NoMemory) -> NotShown {
+        NotShown::NoMemory
+    }
+}
+
+impl From<AllocError> for NotShown {
+    ghost use Rattle.std.specs.Prelude.{◌≡◌};
+    ghost use Rattle.dt_verdict.specs.declared.verdict.NotShown.TheVariants.{NoMemory as WithoutMemory};
+
+    ghost from_gives = { λ _ fault. fault ≡ WithoutMemory };
+
+    fn from(_error: AllocError) -> NotShown {
+        NotShown::NoMemory
+    }
+}
+
 /// The rule that is broken, as a reason.
 fn reason(failing: Failing) -> NotShown
     ensures { (text : List ℕ) → Breaks text failing → IsNotShown text result }
@@ -42,11 +67,9 @@ fn reason(failing: Failing) -> NotShown
     }
 }
 
-/// Reads the text of a certificate, of either version, and tests its four rules in their order, by the values in the text alone (see
-/// `read_cert` and `judge`). The answer is the cost of its tree, and no tree for its typemap costs less; or the first reason why the text
-/// doesn't show this.
-pub fn check(alloc: Global, text: &[u8]) -> Result<u64, NotShown>
-    ensures { MatchResult result (λ cost. IsLeastShown text.now cost) (λ fault. IsNotShown text.now fault) }
+/// The certificate that a text shows, of either version; or the first reason why it shows none.
+pub(crate) fn shown(alloc: Global, text: &[u8]) -> Result<Certificate, NotShown>
+    ensures { MatchResult result (λ c. IsShown text.now (certificate_in c)) (λ fault. IsNotShown text.now fault) }
 {
     let c = match read_cert(alloc, text) {
         Ok(c) => c,
@@ -54,7 +77,19 @@ pub fn check(alloc: Global, text: &[u8]) -> Result<u64, NotShown>
         Err(ReadFault::NoMemory) => return Err(NotShown::NoMemory),
     };
     match judge(alloc, &c) {
-        Ok(cost) => Ok(cost),
+        Ok(_) => Ok(c),
         Err(failing) => Err(reason(failing)),
+    }
+}
+
+/// Reads the text of a certificate, of either version, and tests its four rules in their order, by the values in the text alone (see
+/// `read_cert` and `judge`). The answer is the cost of its tree, and no tree for its typemap costs less; or the first reason why the text
+/// doesn't show this.
+pub fn check(alloc: Global, text: &[u8]) -> Result<u64, NotShown>
+    ensures { MatchResult result (λ cost. IsLeastShown text.now cost) (λ fault. IsNotShown text.now fault) }
+{
+    match shown(alloc, text) {
+        Ok(c) => Ok(c.cost),
+        Err(fault) => Err(fault),
     }
 }

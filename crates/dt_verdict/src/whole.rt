@@ -17,7 +17,7 @@ use std::alloc::Global;
 
 /// The lines of the number of the entries and of the entries.
 #[tactic(auto, unfolding(dt_spelling::specs::Reading::bind, crate::specs::Whole::map_at))]
-fn map(alloc: Global, text: &[u8], at: usize) -> Result<(FlatMap, usize), Stop>
+pub(crate) fn map(alloc: Global, text: &[u8], at: usize) -> Result<(FlatMap, usize), Stop>
     ensures { Gives text.now (λ x. (x.0.entries, lines_from text.now x.1)) result (map_at (lines_from text.now at)) }
 {
     let (number, at) = number(text, at, b"map", 1024)?;
