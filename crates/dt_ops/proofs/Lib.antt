@@ -1,0 +1,4 @@
+pub mod Bits
+pub mod Choosing
+pub mod Lawful
+pub mod Range

@@ -1,0 +1,9 @@
+pub mod Apart
+pub mod Boundary
+pub mod Gathered
+pub mod Joining
+pub mod Planning
+pub mod Reducing
+pub mod Uniform
+pub mod WordLaw
+pub mod Walking

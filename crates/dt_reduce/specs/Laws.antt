@@ -1,0 +1,22 @@
+use Rattle.std.specs.Prelude.{◌≡◌, ℕ, ◌<◌, ℤ, pos, slice_index, slice_index_or, List, length}
+use Rattle.std.specs.List.{All}
+use Rattle.dt_kinds.specs.declared.kind.Kind.{Kind}
+use Rattle.dt_kinds.specs.Bytes.{AreBytes}
+use Rattle.dt_map.specs.declared.entry.Entry.{Entry}
+use Rattle.dt_map.specs.Elements.{IsByteOf}
+use Rattle.dt_map.specs.Typemap.{Marked}
+use Rattle.dt_ops.specs.Laws.{GivesWords}
+use Rattle.dt_reduce.specs.Plan.{CanReduce, reduction_of}
+use Rattle.dt_reduce.specs.Reduced.{word_at, reduced}
+
+-- the word of each element of the target becomes what the source's word and its own are joined to, and each byte that is no element's
+-- stays
+abbrev pub WordsAreJoined : Type 0
+WordsAreJoined =
+    (join : Kind → ℕ → ℕ → ℕ) (m : Marked) (count : ℕ) (source_origin : ℤ) (source_len : ℕ) (target_origin : ℤ) (target_len : ℕ) (source target : List ℕ)
+    → let r = reduction_of m count source_origin source_len target_origin target_len in
+    let new = reduced join r.source r.target source target in
+    GivesWords join → CanReduce r → length source ≡ source_len → length target ≡ target_len → AreBytes source → AreBytes target
+    → ((k : ℕ) (d : Entry) → k < length r.target → let f = slice_index_or r.target k d in
+    word_at new f ≡ join f.kind (word_at source (slice_index_or r.source k d)) (word_at target f))
+    × ((x : ℕ) → All (λ f. ¬ IsByteOf (pos x) f) r.target → slice_index new x ≡ slice_index target x)

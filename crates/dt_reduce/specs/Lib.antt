@@ -1,0 +1,5 @@
+pub mod Laws
+pub mod Paired
+pub mod Plan
+pub mod Reduced
+pub mod Words
