@@ -115,7 +115,7 @@ impl Machine {
     }
 
     /// What a type word stands for: one more owner of the datatype.
-    pub(crate) fn kept(&self, word: &Name) -> Result<Kept, Stop>
+    pub fn kept(&self, word: &Name) -> Result<Kept, Stop>
         ensures { MatchResult result (λ kept. type_of self.now word.now ≡ Some kept) (IsMissing self.now.types word.now) }
     {
         self.types.kept(self.alloc, word)
