@@ -1,0 +1,4 @@
+pub mod Script
+pub mod Certified
+pub mod Checked
+pub mod Moved
