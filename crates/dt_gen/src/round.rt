@@ -5,34 +5,7 @@ ghost use Rattle.dt_gen.specs.Sizes.{IsSmall};
 
 use crate::draws::Draws;
 use crate::text::{push_kind, push_name, push_number, push_word};
-use dt_kinds::{Kind, NoMemory};
-
-/// The basic datatypes, in the order of their numbers.
-const KINDS: [Kind; 23] = [
-    Kind::Byte,
-    Kind::Char,
-    Kind::SignedChar,
-    Kind::UnsignedChar,
-    Kind::Short,
-    Kind::UnsignedShort,
-    Kind::Int,
-    Kind::Unsigned,
-    Kind::Long,
-    Kind::UnsignedLong,
-    Kind::LongLong,
-    Kind::UnsignedLongLong,
-    Kind::Int8,
-    Kind::Int16,
-    Kind::Int32,
-    Kind::Int64,
-    Kind::Uint8,
-    Kind::Uint16,
-    Kind::Uint32,
-    Kind::Uint64,
-    Kind::Aint,
-    Kind::Count,
-    Kind::Offset,
-];
+use dt_kinds::{KINDS, Kind, NoMemory};
 
 /// A vector of `count` blocks of `block` elements of a kind, `stride` elements from block to block, and `rows` copies of it with a gap
 /// of so many times 8 bytes between.

@@ -51,7 +51,7 @@ pub enum KindFault {
 }
 
 /// All kinds, in the order of their numbers.
-const KINDS: [Kind; 23] = [
+pub const KINDS: [Kind; 23] = [
     Kind::Byte,
     Kind::Char,
     Kind::SignedChar,

@@ -7,5 +7,5 @@ pub mod laws;
 pub mod memory;
 
 pub use displacement::{DISP_MAX, fits_disp};
-pub use kind::{Kind, KindFault, Rep};
+pub use kind::{KINDS, Kind, KindFault, Rep};
 pub use memory::NoMemory;

@@ -7,7 +7,7 @@ ghost use Rattle.dt_wire.specs.Skipping.{Gives};
 use crate::passing::skip;
 use byteorder::{BigEndian, ByteOrder};
 use dt_form::{AddrBlock, Dist, DistDim, IntBlock, Order, SubDim};
-use dt_kinds::Kind;
+use dt_kinds::{KINDS, Kind};
 
 /// What stands in lists.
 pub(crate) trait Field: Copy {
@@ -139,33 +139,6 @@ pub(crate) fn order(bytes: &[u8]) -> Result<(Order, &[u8]), &[u8]>
 {
     item(bytes, &[Order::C, Order::Fortran])
 }
-
-/// The basic datatypes, in the order of their numbers.
-const KINDS: [Kind; 23] = [
-    Kind::Byte,
-    Kind::Char,
-    Kind::SignedChar,
-    Kind::UnsignedChar,
-    Kind::Short,
-    Kind::UnsignedShort,
-    Kind::Int,
-    Kind::Unsigned,
-    Kind::Long,
-    Kind::UnsignedLong,
-    Kind::LongLong,
-    Kind::UnsignedLongLong,
-    Kind::Int8,
-    Kind::Int16,
-    Kind::Int32,
-    Kind::Int64,
-    Kind::Uint8,
-    Kind::Uint16,
-    Kind::Uint32,
-    Kind::Uint64,
-    Kind::Aint,
-    Kind::Count,
-    Kind::Offset,
-];
 
 /// A basic datatype.
 pub(crate) fn kind(bytes: &[u8]) -> Result<(Kind, &[u8]), &[u8]>
