@@ -1,3 +1,4 @@
+pub mod Copies
 pub mod Definitions
 pub mod Fills
 pub mod JoinedGives
@@ -12,9 +13,12 @@ pub mod Operations
 pub mod Outcomes
 pub mod Pieces
 pub mod Rebuilding
+pub mod Reductions
 pub mod Rows
+pub mod Settled
 pub mod Sound
 pub mod Telling
 pub mod Turning
 pub mod TypeWords
 pub mod Widths
+pub mod Wires

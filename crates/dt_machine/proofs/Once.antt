@@ -5,14 +5,20 @@ use Rattle.std.specs.List.{AllByRecursion}
 use Rattle.std.specs.Option.{IsSomeAnd}
 use Rattle.dt_map.specs.Bounds.{bounds_of}
 use Rattle.dt_map.specs.Counts.{received_elements, received_copies}
-use Rattle.dt_map.specs.Packed.{packed}
+use Rattle.dt_map.specs.declared.entry.Entry.{Entry}
+use Rattle.dt_map.specs.Packed.{packed, total}
+use Rattle.dt_copy.proofs.Alike.{some_same}
+use Rattle.dt_copy.specs.Copied.{copied}
+use Rattle.dt_kinds.specs.declared.kind.Rep.TheVariants.{Native}
+use Rattle.dt_reduce.specs.Reduced.{reduced}
 use Rattle.dt_reply.specs.declared.refusal.Refusal.{Refusal}
 use Rattle.dt_reply.specs.declared.reply.Reply.{Reply}
-use Rattle.dt_reply.specs.declared.reply.Reply.TheVariants.{Done, Packed, Shown, Told, Listed, Described, Contained, Counted, Opened, Given, Closed, Refused}
+use Rattle.dt_reply.specs.declared.reply.Reply.TheVariants.{Done, Packed, Shown, Told, Listed, Described, Contained, Counted, Opened, Given, Closed, Copied, Wire, Reduced, Refused}
 use Rattle.dt_reply.specs.Refusal.{number_of}
 use Rattle.dt_reply.proofs.Numbers.{one_refusal}
 use Rattle.dt_script.specs.declared.command.Command.{Command}
-use Rattle.dt_script.specs.declared.command.Command.TheVariants.{Define, Child, Commit, Free, Info, Map, Envelope, Contents, Buffer, Show, Bytes, Elements, Pack, Take, Seek, Close, Unpack, Give, Weights, Normalise, Rebuild}
+use Rattle.dt_script.specs.declared.command.Op.{Op}
+use Rattle.dt_script.specs.declared.command.Command.TheVariants.{Define, Child, Commit, Free, Info, Map, Envelope, Contents, Buffer, Show, Bytes, Elements, Pack, Take, Seek, Close, Unpack, Give, Copy as CopyCommand, Export, Import, Reduce, Weights, Normalise, Rebuild}
 use Rattle.dt_script.specs.Line.{Meaning, Blank, Fault, Does, IsLine}
 use Rattle.dt_script.specs.Lines.{script_lines}
 use Rattle.dt_script.specs.Name.{begins_with_mpi}
@@ -28,13 +34,16 @@ use Rattle.dt_tree.specs.Tree.{Tree}
 use Rattle.dt_machine.specs.Answers.{Run, text_of_all, are_accepted}
 use Rattle.dt_machine.specs.Choice.{cost_told, tells}
 use Rattle.dt_machine.specs.Laws.{sought, Chooses, StepIsFunction, AnswersAreOne}
+use Rattle.dt_machine.specs.Joins.{join_of}
 use Rattle.dt_machine.specs.Made.{form_in, is_committed_by}
 use Rattle.dt_machine.specs.Refusal.{elements_of, IsRefusedBy}
-use Rattle.dt_machine.specs.State.{State, first_state, type_of, buffer_of, session_of, with_session, with_moved, without_session, with_taken, with_type, with_committed, with_cost, with_count}
+use Rattle.dt_machine.specs.State.{State, first_state, type_of, buffer_of, session_of, with_session, with_moved, without_session, with_taken, with_bytes, with_type, with_committed, with_cost, with_count}
 use Rattle.dt_pack.specs.Session as pack
 use Rattle.dt_sessions.specs.declared.session.Opened as opened
 use Rattle.dt_sessions.specs.Open.{total_in, passed_in, next_in, receipt_in, packing, unpacking}
 use Rattle.dt_unpack.specs.Session as unpack
+use Rattle.dt_wire.proofs.Uniques.{one_spelling}
+use Rattle.dt_wire.specs.Spelling.{text_of}
 use Rattle.dt_machine.specs.Step.{begun, receiving, taken_by, with_piece, Performs, Obeys, Meets}
 use Rattle.dt_machine.proofs.Rows.{some_and}
 use Rattle.dt_machine.proofs.Telling.{no_choice}
@@ -80,6 +89,56 @@ with_built s name base tree kept = with_count (with_type s name (record { ty = b
 built_nothing : (s : State) (name : List ℕ) (kept : Kept) (base : ℤ) (tree : Option Tree) → (base ≡ pos 0) × (tree ≡ None)
     → with_built s name base tree kept ≡ with_built s name (pos 0) None kept
 built_nothing s name kept base tree (a, b) = rw (a, b) refl
+
+-- the elements of both sides of a copy, and of a reduction, are told by what stands
+abbrev with_copied : State → List ℕ → List Entry → List Entry → List ℕ → List ℕ → State
+with_copied s target es fs old held = with_count (with_bytes s target (copied es fs old held))
+
+copies_one : (s : State) (source_count : ℤ) (source_type source : List ℕ) (source_origin target_count : ℤ) (target_type target : List ℕ) (target_origin : ℤ)
+    (t u : State) (reply other : Reply)
+    → let command = CopyCommand source_count source_type source source_origin target_count target_type target target_origin in
+    Performs command s reply t → Performs command s other u → IsOne reply other t u
+copies_one s source_count source_type source source_origin target_count target_type target target_origin t u reply other
+    (from, onto, old, held, a, b, c, d, said, new) (from2, onto2, old2, held2, e, f, g, h, told, now) =
+    let one : from ≡ from2 = some_same from from2 (sym a ∙ e) in
+    let two : onto ≡ onto2 = some_same onto onto2 (sym b ∙ f) in
+    let three : old ≡ old2 = some_same old old2 (sym c ∙ g) in
+    let four : held ≡ held2 = some_same held held2 (sym d ∙ h) in
+    let es = elements_of from source_count source_origin in
+    let es2 = elements_of from2 source_count source_origin in
+    let fs = elements_of onto target_count target_origin in
+    let fs2 = elements_of onto2 target_count target_origin in
+    let first : es ≡ es2 = ap (λ k. elements_of k source_count source_origin) one in
+    let second : fs ≡ fs2 = ap (λ k. elements_of k target_count target_origin) two in (
+      said ∙ (ap (λ xs. Copied (length xs) (total Native xs)) first ∙ sym told),
+      new
+      ∙ (ap (λ xs. with_copied s target xs fs old held) first
+      ∙ (ap (λ xs. with_copied s target es2 xs old held) second
+      ∙ (ap (λ x. with_copied s target es2 fs2 x held) three ∙ (ap (with_copied s target es2 fs2 old2) four ∙ sym now)))),
+    )
+
+abbrev with_reduced : State → Op → List ℕ → List Entry → List Entry → List ℕ → List ℕ → State
+with_reduced s op target es fs old held = with_count (with_bytes s target (reduced (join_of op) es fs old held))
+
+reduces_one : (s : State) (op : Op) (count : ℤ) (ty source : List ℕ) (source_origin : ℤ) (target : List ℕ) (target_origin : ℤ) (t u : State) (reply other : Reply)
+    → let command = Reduce op count ty source source_origin target target_origin in
+    Performs command s reply t → Performs command s other u → IsOne reply other t u
+reduces_one s op count ty source source_origin target target_origin t u reply other (kept, old, held, a, b, c, said, new) (kept2, old2, held2, d, e, f, told, now) =
+    let one : kept ≡ kept2 = some_same kept kept2 (sym a ∙ d) in
+    let two : old ≡ old2 = some_same old old2 (sym b ∙ e) in
+    let three : held ≡ held2 = some_same held held2 (sym c ∙ f) in
+    let es = elements_of kept count source_origin in
+    let es2 = elements_of kept2 count source_origin in
+    let fs = elements_of kept count target_origin in
+    let fs2 = elements_of kept2 count target_origin in
+    let first : es ≡ es2 = ap (λ k. elements_of k count source_origin) one in
+    let second : fs ≡ fs2 = ap (λ k. elements_of k count target_origin) one in (
+      said ∙ (ap (λ xs. Reduced (length xs)) second ∙ sym told),
+      new
+      ∙ (ap (λ xs. with_reduced s op target xs fs old held) first
+      ∙ (ap (λ xs. with_reduced s op target es2 xs old held) second
+      ∙ (ap (λ x. with_reduced s op target es2 fs2 x held) two ∙ (ap (with_reduced s op target es2 fs2 old2) three ∙ sym now)))),
+    )
 
 performs_one : (command : Command) (s t u : State) (reply other : Reply) → (¬ ChoosesBy s command) → Performs command s reply t → Performs command s other u
     → IsOne reply other t u
@@ -131,6 +190,14 @@ performs_one (Unpack name rep count ty buffer origin) s t u reply other none p q
 performs_one (Give session piece) s t u reply other none p q =
     by_two (session_of s session) (λ (o : opened.Opened). buffer_of s o.buffer) (λ o _. Given (receipt_in o.session piece))
     (λ o bytes. with_count (with_piece s session o bytes piece)) reply other t u p q
+performs_one (CopyCommand source_count source_type source source_origin target_count target_type target target_origin) s t u reply other none p q =
+    copies_one s source_count source_type source source_origin target_count target_type target target_origin t u reply other p q
+performs_one (Export ty) s t u reply other none p q = by_one (type_of s ty) (λ kept. Wire (text_of (form_of kept.ty))) (λ _. with_count s) reply other t u p q
+performs_one (Import name wire) s t u reply other none (form, a, b, c) (form2, d, e, f) =
+    let same : form ≡ form2 = (one_spelling wire wire form form2 a d).0 refl in
+    (b ∙ sym e, c ∙ (ap (λ x. with_count (with_type s name (record { ty = result_of x; committed = is_basic (result_of x) }))) same ∙ sym f))
+performs_one (Reduce op count ty source source_origin target target_origin) s t u reply other none p q =
+    reduces_one s op count ty source source_origin target target_origin t u reply other p q
 performs_one (Weights leaf vector index place group part) s t u reply other none p q = (p.0 ∙ sym q.0, p.1 ∙ sym q.1)
 performs_one (Normalise ty) s t u reply other none (kept, base, tree, a, b, c, d) (kept2, base2, tree2, e, f, g, h) =
     let few = no_choice s.weights (entries_of kept.ty) base tree (λ some. none (some_and (type_of s ty) HasEntries kept a some)) b in

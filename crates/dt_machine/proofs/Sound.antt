@@ -8,19 +8,23 @@ use Rattle.std.specs.Ordering.{nat_cmp}
 use Rattle.std.specs.Prelude.{cond, min, IsFalse}
 use Rattle.std.specs.List.{AllByRecursion}
 use Rattle.std.proofs.lemmas.Bool.{cases_lt}
+use Rattle.dt_copy.specs.Copied.{copied}
+use Rattle.dt_copy.specs.Plan.{AreInside}
+use Rattle.dt_reduce.specs.Plan as reduction
+use Rattle.dt_reduce.specs.Reduced.{reduced}
 use Rattle.dt_map.specs.Elements.{elements, are_inside, Overlaps}
 use Rattle.dt_map.specs.Typemap.{shift}
 use Rattle.dt_reply.specs.declared.reply.Reply.{Reply}
 use Rattle.dt_rows.proofs.Operation.{placed_elements}
 use Rattle.dt_script.specs.declared.command.Command.{Command}
-use Rattle.dt_script.specs.declared.command.Command.TheVariants.{Define, Child, Commit, Free, Info, Map, Envelope, Contents, Buffer, Show, Bytes, Elements, Pack as OpenPack, Unpack as OpenUnpack, Take, Seek, Close, Give, Weights, Normalise, Rebuild}
+use Rattle.dt_script.specs.declared.command.Command.TheVariants.{Define, Child, Commit, Free, Info, Map, Envelope, Contents, Buffer, Show, Bytes, Elements, Pack as OpenPack, Unpack as OpenUnpack, Take, Seek, Close, Give, Copy as CopyCommand, Export, Import, Reduce, Weights, Normalise, Rebuild}
 use Rattle.dt_script.specs.Line.{Meaning, Blank, Fault, Does}
 use Rattle.dt_script.specs.Name.{begins_with_mpi}
 use Rattle.dt_sessions.specs.declared.session.Opened.{Opened}
 use Rattle.dt_sessions.specs.declared.session.Session.{Session}
 use Rattle.dt_sessions.specs.declared.session.Session.TheVariants.{Pack, Unpack}
 use Rattle.dt_sessions.specs.Open.{packing, unpacking, at_byte_in, opened_at, passed_in, HoldsOpen, IsOver, IsSmall}
-use Rattle.dt_sessions.proofs.OpenLemmas.{each_found, each_insert, each_remove, each_set, holds_buffer, holds_closed, holds_given, holds_moved, holds_opened, length_found, over_at, over_found}
+use Rattle.dt_sessions.proofs.OpenLemmas.{each_found, each_insert, each_remove, each_set, holds_buffer, holds_closed, holds_given, holds_moved, holds_opened, holds_set, length_found, over_at, over_found}
 use Rattle.dt_type.specs.Datatype.{typemap_of}
 use Rattle.dt_unpack.specs.Session as unpack
 use Rattle.dt_unpack.proofs.Apart.{length_after}
@@ -32,7 +36,12 @@ use Rattle.dt_machine.specs.Pieces.{IsSound, IsSoundIn, SoundIsKept}
 use Rattle.dt_machine.specs.Refusal.{elements_of, IsAllowed, IsOutside, IsSending, IsTruncated}
 use Rattle.dt_machine.specs.State.{State, type_of, buffer_of, session_of, with_committed, with_count}
 use Rattle.dt_machine.specs.Step.{begun, receiving, taken_by, with_piece, Performs, Obeys, Meets}
+use Rattle.dt_machine.specs.Joins.{join_of}
+use Rattle.dt_machine.specs.Sides.{side, copy_between, Differ}
+use Rattle.dt_machine.proofs.Copies.{of_copy}
+use Rattle.dt_machine.proofs.Reductions.{of_reduction}
 use Rattle.dt_machine.proofs.Rows.{allowed_is_clear, some_and}
+use Rattle.dt_machine.proofs.Settled.{can_copy, length_copied, length_reduced}
 
 -- a state that differs in nothing of which something is known
 abbrev IsLike : State → State → Type 0
@@ -116,6 +125,16 @@ module _ (s : State) (sound : IsSound s) (name buffer : List ℕ) (u : unpack.Se
         counted = record { taken = sound.counted.taken; given = few; elements = low };
       }
 
+-- a buffer with other bytes, as many as it had
+module _ (s : State) (sound : IsSound s) (name held : List ℕ) (stands : buffer_of s name ≡ Some held) where
+  keeps : (bytes : List ℕ) → length bytes ≡ length held → (commands : ℕ)
+      → IsSound (record s { buffers = set_value (is_at (slice_cmp nat_cmp name)) s.buffers bytes; totals = record s.totals { commands = commands } })
+  keeps bytes long commands = record {
+    standing = holds_set s.buffers name held bytes stands long s.sessions sound.standing;
+    sessions = sound.sessions;
+    counted = record { taken = sound.counted.taken; given = sound.counted.given; elements = sound.counted.elements };
+  }
+
 commit_like : (s : State) (ty : List ℕ) (kept : Kept) (b : Bool) → IsLike s (with_count (cond b s (with_committed s ty kept)))
 commit_like s ty kept true = same
 commit_like s ty kept false = same
@@ -197,6 +216,24 @@ performs_sound (Give session piece) s t reply sound may (o, bytes, found, stands
         ] in
         subst IsSound (sym is) (gives s sound session o.buffer u at bytes piece stands short (min (s.totals.given + length piece) (2 ^ 64 - 1))
         (min (s.totals.elements + length (unpack.completed u piece)) (2 ^ 64 - 1)) (with_count s).totals.commands (omega arith) (omega arith))
+performs_sound (CopyCommand source_count source_type source source_origin target_count target_type target target_origin) s t reply sound may (from, onto, old, held, a, b, c, d, said, new) =
+    let clear = (allowed_is_clear s (CopyCommand source_count source_type source source_origin target_count target_type target target_origin)).0 may in
+    let into = copied (elements_of from source_count source_origin) (elements_of onto target_count target_origin) old held in
+    let of = side source_count source_type source source_origin in
+    let to = side target_count target_type target target_origin in
+    let holds = of_copy s source_count source_type source source_origin target_count target_type target target_origin old held c d from onto a b in
+    let can = can_copy (copy_between of to from onto old held) (λ out. clear.1.1.1.1.0 (holds (λ c. ¬ AreInside c) out))
+    (λ over. clear.1.1.1.1.1.0 (holds (λ c. Overlaps c.target) over)) (λ longer. clear.1.1.1.1.1.1.0 (holds (λ c. length c.target < length c.source) longer))
+    (λ differ. clear.1.1.1.1.1.1.1.0 (holds Differ differ)) in
+    subst IsSound (sym new) (keeps s sound target held d into (length_copied (copy_between of to from onto old held) old held refl refl can) (with_count s).totals.commands)
+performs_sound (Export ty) s t reply sound may (kept, a, said, new) = like s t _ sound new same
+performs_sound (Import name wire) s t reply sound may (form, a, said, new) = like s t _ sound new same
+performs_sound (Reduce op count ty source source_origin target target_origin) s t reply sound may (kept, old, held, a, b, c, said, new) =
+    let clear = (allowed_is_clear s (Reduce op count ty source source_origin target target_origin)).0 may in
+    let into = reduced (join_of op) (elements_of kept count source_origin) (elements_of kept count target_origin) old held in
+    let holds = of_reduction s op count ty source source_origin target target_origin old held b c kept a in
+    subst IsSound (sym new) (keeps s sound target held c into (length_reduced (join_of op) (typemap_of kept.ty) (nat_abs count) source_origin (length old) target_origin old held
+    (λ out. clear.1.1.1.1.0 (holds (λ r. ¬ reduction.AreInside r) out))) (with_count s).totals.commands)
 performs_sound (Weights leaf vector index place group part) s t reply sound may (said, new) = like s t _ sound new same
 performs_sound (Normalise ty) s t reply sound may (kept, base, tree, a, b, said, new) = like s t _ sound new same
 performs_sound (Rebuild name ty) s t reply sound may (kept, base, tree, a, b, said, new) = like s t _ sound new same

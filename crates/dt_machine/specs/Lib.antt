@@ -1,6 +1,7 @@
 pub mod Answers
 pub mod Best
 pub mod Choice
+pub mod Joins
 pub mod Laws
 pub mod Made
 pub mod Operation
@@ -8,6 +9,7 @@ pub mod Outcome
 pub mod Pieces
 pub mod Refusal
 pub mod Row
+pub mod Sides
 pub mod State
 pub mod Step
 pub use Rattle.dt_reply.specs.Reply

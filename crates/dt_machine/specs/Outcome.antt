@@ -1,6 +1,10 @@
 -- What a command comes to before anything changes. No public clause cites this module.
 use Rattle.std.specs.Option.{IsSomeAnd}
-use Rattle.std.specs.Prelude.{◌≡◌, true, false, IsTrue, List, ℕ, ◌<◌, Option, Some, None, IsSome, Result, MatchResult}
+use Rattle.std.specs.Prelude.{◌≡◌, ◌≢◌, length, true, false, IsTrue, List, ℕ, ◌<◌, Option, Some, None, IsSome, Result, MatchResult}
+use Rattle.dt_copy.specs.Copied.{copied}
+use Rattle.dt_copy.specs.Plan.{Copy}
+use Rattle.dt_reduce.specs.Plan.{Reduction}
+use Rattle.dt_reduce.specs.Reduced.{reduced}
 use Rattle.dt_reply.specs.declared.refusal.Refusal.TheVariants as refusal
 use Rattle.dt_reply.specs.Reply.{is_accepted}
 use Rattle.dt_script.specs.declared.command.Command.{Command}
@@ -9,13 +13,14 @@ use Rattle.dt_type.specs.Basic.{is_basic}
 use Rattle.dt_type.specs.declared.fault.CtorFault.{CtorFault}
 use Rattle.dt_type.specs.declared.fault.CtorFault.TheVariants as fault
 use Rattle.dt_machine.specs.declared.outcome.Change.{Change}
-use Rattle.dt_machine.specs.declared.outcome.Change.TheVariants.{Nothing, AddType, Commit, Free, AddBuffer, SetWeights, AddCost, OpenSession, SeekSession, TakeBytes, CloseSession}
+use Rattle.dt_machine.specs.declared.outcome.Change.TheVariants.{Nothing, AddType, Commit, Free, AddBuffer, SetWeights, AddCost, OpenSession, SeekSession, TakeBytes, CloseSession, CopyBytes, ReduceBytes}
 use Rattle.dt_machine.specs.declared.outcome.Outcome.{Outcome}
 use Rattle.dt_names.specs.declared.stop.Stop.{Stop}
 use Rattle.dt_names.specs.declared.stop.Stop.TheVariants.{Refused, NoMemory}
 use Rattle.dt_names.specs.declared.kept.Kept.{Kept}
 use Rattle.dt_machine.specs.Refusal.{IsRefusedBy, IsAllowed}
-use Rattle.dt_machine.specs.State.{State, with_type, with_committed, without_type, with_buffer, with_session, with_moved, without_session, with_taken, with_weights, with_cost, with_count}
+use Rattle.dt_machine.specs.Joins.{join_of}
+use Rattle.dt_machine.specs.State.{State, with_bytes, with_type, with_committed, without_type, with_buffer, with_session, with_moved, without_session, with_taken, with_weights, with_cost, with_count}
 use Rattle.dt_names.specs.Names.{under}
 use Rattle.dt_sessions.specs.declared.session.Opened.{Opened}
 use Rattle.dt_sessions.specs.Open.{CanSeek, IsOver, IsSmall}
@@ -35,6 +40,11 @@ abbrev pub with_seek : State → List ℕ → ℕ → Option Opened → State
 with_seek s name byte None = s
 with_seek s name byte (Some opened) = with_moved s name opened byte
 
+-- where both buffers stand, the state with what these make of them in the second
+abbrev pub with_made : State → List ℕ → Option (List ℕ) → Option (List ℕ) → (List ℕ → List ℕ → List ℕ) → State
+with_made s name (Some old) (Some held) makes = with_bytes s name (makes old held)
+with_made s name old held makes = s
+
 -- the state behind a change
 abbrev pub changed : Change → State → State
 changed Nothing s = s
@@ -48,9 +58,18 @@ changed (OpenSession name opened) s = with_session s name opened
 changed (SeekSession name byte) s = with_seek s name byte (under name s.sessions)
 changed (TakeBytes name byte count) s = with_taken (with_seek s name byte (under name s.sessions)) count
 changed (CloseSession name) s = without_session s name
+changed (CopyBytes plan source target) s = with_made s target (under source s.buffers) (under target s.buffers) (copied plan.source plan.target)
+changed (ReduceBytes op plan source target) s =
+    with_made s target (under source s.buffers) (under target s.buffers) (reduced (join_of op) plan.source plan.target)
+
+-- two buffers that differ, and have these lengths
+abbrev pub CanMake : State → List ℕ → List ℕ → ℕ → ℕ → Type 0
+CanMake s source target source_len target_len =
+    (source ≢ target) × IsSomeAnd (under source s.buffers) (λ bytes. length bytes ≡ source_len)
+    × IsSomeAnd (under target s.buffers) (λ bytes. length bytes ≡ target_len)
 
 -- what a change asks of the state: a new name, of which more may be made, and a basic type committed; a name that stands, of no basic type;
--- a new buffer that is small; a buffer that stands, for a session; and a packed byte to which a session can go
+-- a new buffer that is small; a buffer that stands, for a session; a packed byte to which a session can go; and the buffers of a plan
 abbrev pub CanChange : Change → State → Type 0
 CanChange Nothing s = Unit {0}
 CanChange (AddType name kept) s =
@@ -64,6 +83,8 @@ CanChange (OpenSession name opened) s = IsOver s.buffers opened
 CanChange (SeekSession name byte) s = IsSomeAnd (under name s.sessions) (λ opened. CanSeek opened.session byte)
 CanChange (TakeBytes name byte count) s = IsSomeAnd (under name s.sessions) (λ opened. CanSeek opened.session byte)
 CanChange (CloseSession name) s = Unit {0}
+CanChange (CopyBytes plan source target) s = CanMake s source target plan.source_len plan.target_len
+CanChange (ReduceBytes op plan source target) s = CanMake s source target plan.source_len plan.target_len
 
 -- a command that is allowed: its reply, and the change that it makes
 pub record IsOutcome (s : State) (command : Command) (o : Outcome) : Type 0 where

@@ -7,13 +7,15 @@ use Rattle.dt_map.specs.declared.entry.Entry.{Entry}
 use Rattle.dt_map.specs.Elements.{elements, are_inside, Overlaps}
 use Rattle.dt_map.specs.Packed.{total}
 use Rattle.dt_reply.specs.declared.refusal.Refusal.{Refusal}
-use Rattle.dt_reply.specs.declared.refusal.Refusal.TheVariants.{UnknownName, NameTaken, UnsupportedKind, NotCommitted, BasicType, NamedType, NoSuchChild, BadArgument, Overflow, TooDeep, TooHeavy, TooManyNames, TooManyEntries, Outside, Overlap, TooLarge, WrongDirection, Truncated}
+use Rattle.dt_reply.specs.declared.refusal.Refusal.TheVariants.{UnknownName, NameTaken, UnsupportedKind, NotCommitted, BasicType, NamedType, NoSuchChild, BadArgument, Overflow, TooDeep, TooHeavy, TooManyNames, TooManyEntries, Outside, Overlap, TooLarge, WrongDirection, Truncated, SignatureDiffers, SameBuffer, BadWire}
 use Rattle.dt_reply.specs.Refusal.{number_of}
 use Rattle.dt_script.specs.declared.command.Command.{Command}
-use Rattle.dt_script.specs.declared.command.Command.TheVariants.{Define, Child, Commit, Free, Info, Map, Envelope, Contents, Buffer, Show, Bytes, Elements, Pack, Take, Seek, Close, Unpack, Give, Weights, Normalise, Rebuild}
+use Rattle.dt_script.specs.declared.command.Command.TheVariants.{Define, Child, Commit, Free, Info, Map, Envelope, Contents, Buffer, Show, Bytes, Elements, Pack, Take, Seek, Close, Unpack, Give, Copy as CopyCommand, Export, Import, Reduce, Weights, Normalise, Rebuild}
 use Rattle.dt_script.specs.declared.command.Fill.{Fill}
 use Rattle.dt_script.specs.declared.command.Fill.TheVariants.{Zero, Count, Hex}
 use Rattle.dt_script.specs.Olds.{any_old}
+use Rattle.dt_copy.specs.Plan as copy
+use Rattle.dt_reduce.specs.Plan as reduction
 use Rattle.dt_type.specs.declared.fault.CtorFault.TheVariants as fault
 use Rattle.dt_type.specs.Basic.{is_basic}
 use Rattle.dt_form.specs.Contents.{old_at}
@@ -21,11 +23,14 @@ use Rattle.dt_type.specs.Datatype.{typemap_of, entries_of, form_of}
 use Rattle.dt_form.specs.Form.{olds_of}
 use Rattle.dt_names.specs.declared.kept.Kept.{Kept}
 use Rattle.dt_sessions.specs.declared.session.Opened.{Opened}
+use Rattle.dt_wire.specs.Fault.{IsText}
+use Rattle.dt_wire.specs.Import.{IsRefused}
 use Rattle.dt_sessions.specs.Open.{is_packing, total_in, rest_in}
 use Rattle.dt_machine.specs.declared.limits.TheConstants.{MOST_TYPES, MOST_MADE, MOST_BUFFERS, LARGEST_BUFFER, MOST_BYTES, MOST_ENTRIES, MOST_SOUGHT, MOST_PACKED, MOST_SESSIONS, MOST_OPEN}
 use Rattle.dt_machine.specs.Choice.{AreWeights, AreTooWide}
 use Rattle.dt_machine.specs.Made.{IsFaultIn}
 use Rattle.dt_machine.specs.Row.{Row, ◌when◌, condition}
+use Rattle.dt_machine.specs.Sides.{side, is_side_unknown, IsNotCommitted, OfCopy, Differ, OfReduction}
 use Rattle.dt_machine.specs.State.{State, type_of, buffer_of, is_unknown, is_basic_word, is_type_taken, is_buffer_taken, is_session_taken, session_of, packed_open, bytes_held}
 use Rattle.dt_names.specs.Names.{bytes_of}
 
@@ -160,6 +165,40 @@ conditions s (Give session piece) =
     UnknownName when IsTrue (is_none (session_of s session))
     ∷ WrongDirection when IsSomeAnd (session_of s session) IsSending
     ∷ Truncated when IsSomeAnd (session_of s session) (IsTruncated piece)
+    ∷ []
+conditions s (CopyCommand source_count source_type source source_origin target_count target_type target target_origin) =
+    let from = side source_count source_type source source_origin in
+    let onto = side target_count target_type target target_origin in
+    UnknownName when IsTrue (is_side_unknown s from || is_side_unknown s onto)
+    ∷ UnsupportedKind when IsTrue (is_left_out source_type || is_left_out target_type)
+    ∷ NotCommitted when (IsNotCommitted s source_type ⊎ IsNotCommitted s target_type)
+    ∷ BadArgument when IsTrue (int_lt source_count (pos 0) || int_lt target_count (pos 0))
+    ∷ Outside when OfCopy s from onto (λ c. ¬ copy.AreInside c)
+    ∷ Overlap when OfCopy s from onto (λ c. Overlaps c.target)
+    ∷ Truncated when OfCopy s from onto (λ c. length c.target < length c.source)
+    ∷ SignatureDiffers when OfCopy s from onto Differ
+    ∷ SameBuffer when (source ≡ target)
+    ∷ []
+conditions s (Export ty) = type_row s ty []
+conditions s (Import name wire) =
+    NameTaken when IsTrue (is_type_taken s name)
+    ∷ BadArgument when IsRefused wire fault.BadArgument
+    ∷ Overflow when IsRefused wire fault.Overflow
+    ∷ TooDeep when IsRefused wire fault.TooDeep
+    ∷ TooHeavy when IsRefused wire fault.TooHeavy
+    ∷ TooManyNames when NoMoreTypes s
+    ∷ BadWire when (¬ IsText wire)
+    ∷ []
+conditions s (Reduce op count ty source source_origin target target_origin) =
+    let from = side count ty source source_origin in
+    let onto = side count ty target target_origin in
+    UnknownName when IsTrue (is_side_unknown s from || is_side_unknown s onto)
+    ∷ UnsupportedKind when IsTrue (is_left_out ty)
+    ∷ NotCommitted when IsNotCommitted s ty
+    ∷ BadArgument when IsTrue (int_lt count (pos 0))
+    ∷ Outside when OfReduction s from onto (λ r. ¬ reduction.AreInside r)
+    ∷ Overlap when OfReduction s from onto (λ r. Overlaps r.target)
+    ∷ SameBuffer when (source ≡ target)
     ∷ []
 conditions s (Weights leaf vector index place group part) = BadArgument when (¬ AreWeights leaf vector index place group part) ∷ []
 conditions s (Normalise ty) =

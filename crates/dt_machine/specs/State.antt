@@ -85,6 +85,10 @@ without_type s name = record s { types = remove_entry (is_at (slice_cmp nat_cmp 
 abbrev pub with_buffer : State → List ℕ → List ℕ → State
 with_buffer s name bytes = record s { buffers = insert_entry (slice_cmp nat_cmp) s.buffers name bytes }
 
+-- the state with other bytes in a buffer that stands
+abbrev pub with_bytes : State → List ℕ → List ℕ → State
+with_bytes s name bytes = record s { buffers = set_value (is_at (slice_cmp nat_cmp name)) s.buffers bytes }
+
 -- the state with one more session, with a session at another packed byte, and without one
 abbrev pub with_session : State → List ℕ → Opened → State
 with_session s name opened = record s { sessions = insert_entry (slice_cmp nat_cmp) s.sessions name opened }

@@ -1,15 +1,18 @@
 -- What a line does to the state, and what is replied.
 use Rattle.std.specs.Prelude.{◌≡◌, ℕ, ◌+◌, min, length, ℤ, nat_abs, false, if◌then◌else◌, List, Option, Some, ◌⊎◌}
+use Rattle.dt_copy.specs.Copied.{copied}
 use Rattle.dt_kinds.specs.declared.kind.Rep.{Rep}
+use Rattle.dt_kinds.specs.declared.kind.Rep.TheVariants.{Native}
 use Rattle.dt_map.specs.Bounds.{bounds_of}
 use Rattle.dt_map.specs.Counts.{received_elements, received_copies}
-use Rattle.dt_map.specs.Packed.{packed}
+use Rattle.dt_map.specs.Packed.{packed, total}
+use Rattle.dt_reduce.specs.Reduced.{reduced}
 use Rattle.dt_reply.specs.declared.refusal.Refusal.{Refusal}
 use Rattle.dt_reply.specs.declared.refusal.Refusal.TheVariants.{Syntax}
 use Rattle.dt_reply.specs.declared.reply.Reply.{Reply}
-use Rattle.dt_reply.specs.declared.reply.Reply.TheVariants.{Silent, Done, Packed, Shown, Told, Listed, Described, Contained, Counted, Opened, Given, Closed, Refused}
+use Rattle.dt_reply.specs.declared.reply.Reply.TheVariants.{Silent, Done, Packed, Shown, Told, Listed, Described, Contained, Counted, Opened, Given, Closed, Copied, Wire, Reduced, Refused}
 use Rattle.dt_script.specs.declared.command.Command.{Command}
-use Rattle.dt_script.specs.declared.command.Command.TheVariants.{Define, Child, Commit, Free, Info, Map, Envelope, Contents, Buffer, Show, Bytes, Elements, Pack, Take, Seek, Close, Unpack, Give, Weights, Normalise, Rebuild}
+use Rattle.dt_script.specs.declared.command.Command.TheVariants.{Define, Child, Commit, Free, Info, Map, Envelope, Contents, Buffer, Show, Bytes, Elements, Pack, Take, Seek, Close, Unpack, Give, Copy as CopyCommand, Export, Import, Reduce, Weights, Normalise, Rebuild}
 use Rattle.dt_script.specs.Name.{begins_with_mpi}
 use Rattle.dt_script.specs.Line.{Meaning, Blank, Fault, Does, IsLine}
 use Rattle.dt_type.specs.declared.datatype.Seen.{Seen}
@@ -27,10 +30,13 @@ use Rattle.dt_sessions.specs.declared.session.Opened as opened
 use Rattle.dt_sessions.specs.Open.{total_in, passed_in, rest_in, next_in, receipt_in, packing, unpacking}
 use Rattle.dt_machine.specs.Choice.{weights_by, MayBeTold, cost_told, tells}
 use Rattle.dt_machine.specs.Made.{form_in, is_committed_by}
+use Rattle.dt_machine.specs.Joins.{join_of}
 use Rattle.dt_machine.specs.Refusal.{elements_of, IsRefusedBy, IsAllowed}
-use Rattle.dt_machine.specs.State.{State, type_of, buffer_of, session_of, with_session, with_moved, with_given, without_session, with_taken, with_received, with_type, with_committed, without_type, with_buffer, with_weights, with_cost, with_count}
+use Rattle.dt_machine.specs.State.{State, type_of, buffer_of, session_of, with_session, with_moved, with_given, without_session, with_taken, with_received, with_type, with_committed, without_type, with_buffer, with_bytes, with_weights, with_cost, with_count}
 use Rattle.dt_names.specs.Names.{bytes_of}
 use Rattle.dt_unpack.specs.Session as unpack
+use Rattle.dt_wire.specs.Spelling.{text_of}
+use Rattle.dt_wire.specs.Wire.{IsWire}
 
 -- a pack session over a type and a buffer of so many bytes, as it is opened
 abbrev pub begun : Kept → Rep → ℤ → ℤ → ℕ → pack.Session
@@ -112,6 +118,25 @@ Performs (Unpack name rep count ty buffer origin) s reply t =
 Performs (Give session piece) s reply t =
     (o : opened.Opened) × (bytes : List ℕ) × (session_of s session ≡ Some o) × (buffer_of s o.buffer ≡ Some bytes)
     × (reply ≡ Given (receipt_in o.session piece)) × (t ≡ with_count (with_piece s session o bytes piece))
+-- each element of the source is copied to the place of the target's element with the same number, and how many these are is told
+Performs (CopyCommand source_count source_type source source_origin target_count target_type target target_origin) s reply t =
+    (from onto : Kept) × (old held : List ℕ) × (type_of s source_type ≡ Some from) × (type_of s target_type ≡ Some onto)
+    × (buffer_of s source ≡ Some old) × (buffer_of s target ≡ Some held)
+    × (let es = elements_of from source_count source_origin in
+    let fs = elements_of onto target_count target_origin in
+    (reply ≡ Copied (length es) (total Native es)) × (t ≡ with_count (with_bytes s target (copied es fs old held))))
+-- the bytes that spell the type's form are told
+Performs (Export ty) s reply t = (kept : Kept) × (type_of s ty ≡ Some kept) × (reply ≡ Wire (text_of (form_of kept.ty))) × (t ≡ with_count s)
+-- the new name stands for the type of the form that the bytes spell, which is committed where it is basic
+Performs (Import name wire) s reply t =
+    (form : FormOf Seen) × IsWire wire form × (reply ≡ Done)
+    × (t ≡ with_count (with_type s name (record { ty = result_of form; committed = is_basic (result_of form) })))
+-- the words of the target's elements become what the source's words and they are joined to, and how many these are is told
+Performs (Reduce op count ty source source_origin target target_origin) s reply t =
+    (kept : Kept) × (old held : List ℕ) × (type_of s ty ≡ Some kept) × (buffer_of s source ≡ Some old) × (buffer_of s target ≡ Some held)
+    × (let es = elements_of kept count source_origin in
+    let fs = elements_of kept count target_origin in
+    (reply ≡ Reduced (length fs)) × (t ≡ with_count (with_bytes s target (reduced (join_of op) es fs old held))))
 -- trees are weighed so from now on
 Performs (Weights leaf vector index place group part) s reply t =
     (reply ≡ Done) × (t ≡ with_count (with_weights s (weights_by leaf vector index place group part)))

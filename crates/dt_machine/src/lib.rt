@@ -2,6 +2,8 @@
 #![tactic(auto)]
 
 mod bytes;
+mod combining;
+mod copying;
 mod define;
 mod fill;
 pub mod laws;
@@ -11,9 +13,11 @@ mod names;
 mod outcome;
 mod queries;
 mod receiving;
+mod reducing;
 mod sessions;
 pub mod state;
 mod trees;
+mod wire;
 
 pub use dt_names::{Found, Kept};
 pub use machine::Machine;

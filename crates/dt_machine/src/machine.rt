@@ -14,6 +14,7 @@ ghost use Rattle.dt_reply.specs.Reply.{Gives, Responds, text_of};
 ghost use Rattle.dt_reply.specs.declared.reply.Reply.TheVariants.{Refused};
 
 use crate::limits::{MOST_MADE, MOST_TYPES};
+use crate::combining::reduce_in;
 use crate::outcome::{Change, Outcome};
 use crate::state::Totals;
 use dt_kinds::NoMemory;
@@ -253,6 +254,19 @@ impl Machine {
                 self.totals.taken = self.totals.taken.saturating_add(count);
             }
             Change::CloseSession { name } => self.transfers.close(&name),
+            Change::CopyBytes {
+                mut plan,
+                source,
+                target,
+            } => {
+                self.transfers.copy(self.alloc, &mut plan, &source, &target);
+            }
+            Change::ReduceBytes {
+                op,
+                mut plan,
+                source,
+                target,
+            } => reduce_in(&mut self.transfers, self.alloc, op, &mut plan, &source, &target),
         }
         self.totals.commands = self.totals.commands.saturating_add(1);
         Ok(())
@@ -328,6 +342,36 @@ impl Machine {
                 origin,
             } => self.unpack(name, *rep, *count, ty, buffer, *origin),
             Command::Give { .. } => unreachable!(),
+            Command::Copy {
+                source_count,
+                source_type,
+                source,
+                source_origin,
+                target_count,
+                target_type,
+                target,
+                target_origin,
+            } => self.copy(
+                *source_count,
+                source_type,
+                source,
+                *source_origin,
+                *target_count,
+                target_type,
+                target,
+                *target_origin,
+            ),
+            Command::Export { ty } => self.export(ty),
+            Command::Import { name, wire } => self.import(name, wire.as_slice()),
+            Command::Reduce {
+                op,
+                count,
+                ty,
+                source,
+                source_origin,
+                target,
+                target_origin,
+            } => self.reduce(*op, *count, ty, source, *source_origin, target, *target_origin),
             Command::Weights {
                 leaf,
                 vector,

@@ -2,9 +2,11 @@
 ghost use Rattle.std.specs.Prelude.{◌≡◌};
 ghost use Rattle.dt_reply.specs.declared.reply.Reply.TheVariants.{Done};
 
+use dt_copy::CopyPlan;
 use dt_names::{Buffer, Kept};
+use dt_reduce::ReducePlan;
 use dt_reply::Reply;
-use dt_script::Name;
+use dt_script::{Name, Op};
 use dt_sessions::Opened;
 use dt_tree::Weights;
 
@@ -22,6 +24,8 @@ pub(crate) enum Change {
     SeekSession { name: Name, byte: u64 },
     TakeBytes { name: Name, byte: u64, count: u64 },
     CloseSession { name: Name },
+    CopyBytes { plan: CopyPlan, source: Name, target: Name },
+    ReduceBytes { op: Op, plan: ReducePlan, source: Name, target: Name },
 }
 
 /// The reply to a command that is allowed, and the change that it makes.
