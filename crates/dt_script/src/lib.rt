@@ -14,6 +14,7 @@ pub mod lines;
 pub mod name;
 mod number;
 mod reading;
+mod reduction;
 mod words;
 
 pub use bytes::Bytes;
