@@ -4,7 +4,7 @@ use Rattle.dt_script.specs.declared.command.Command.{Command}
 use Rattle.dt_script.specs.declared.command.Command.TheVariants.{Define, Child, Commit, Free, Info, Map, Envelope, Contents, Buffer, Show, Bytes, Elements, Pack, Take, Seek, Close, Unpack, Give, Weights, Normalise, Rebuild, Copy, Export, Import, Reduce, Reduceall}
 use Rattle.dt_script.specs.declared.command.Fill.{Fill}
 use Rattle.dt_script.specs.declared.command.Fill.TheVariants.{Zero, Count, Hex}
-use Rattle.dt_script.specs.Command.{IsFill, IsCommand}
+use Rattle.dt_script.specs.Command.{IsFill, IsCommand, HasRanks}
 use Rattle.dt_script.specs.Forms.{zero, count, hex, fill_forms, fill_of, define, child, commit, free, info, map, envelope, contents, buffer, show, bytes, counts, weights, normalise, rebuild, pack, take, seek, close, unpack, give, copy, export, import, reduce, reduceall, reduction_forms, copy_forms, unpack_forms, session_forms, tree_forms, buffer_forms, question_forms, command_forms, command_of}
 use Rattle.dt_script.specs.Item.{Words}
 use Rattle.dt_script.proofs.CtorLemmas.{ctor_sound, ctor_complete}
@@ -146,3 +146,8 @@ command_complete ws (Reduce op copies ty source source_origin target target_orig
     any_complete command_forms reduce tt ws (op, (copies, (ty, (source, (source_origin, (target, (target_origin, tt))))))) h (λ _. refl)
 command_complete ws (Reduceall op how copies ty origin target ranks) h =
     any_complete command_forms reduceall tt ws (op, (how, (copies, (ty, (origin, (target, ranks)))))) h (λ _. refl)
+
+-- a command of a line has the ranks that it asks for: they stand behind its word and six more
+pub has_ranks : (ws : Words) (c : Command) → IsCommand ws c → HasRanks c
+has_ranks ws (Reduceall op how copies ty origin target ranks) h = h.2.4.4.4.4.4.4.0
+has_ranks ws c h = tt
