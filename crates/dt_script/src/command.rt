@@ -165,13 +165,13 @@ pub enum Command {
     },
 }
 
-/// How a reduction joins two elements of one kind, the one of the source before that of the target, and that of a lower rank before
-/// that of a higher one.
+/// How a reduction joins two elements of one kind: that of the source with that of the target, or that of a rank with that of a
+/// later one.
 #[derive(Clone, Copy)]
 pub enum Op {
-    /// `sum`
+    /// `sum`, modulo the range of the kind
     Sum,
-    /// `prod`
+    /// `prod`, modulo the range of the kind
     Prod,
     /// `min`
     Min,
@@ -183,18 +183,18 @@ pub enum Op {
     Or,
     /// `xor`, bit by bit
     Xor,
-    /// `first`: the element before
+    /// `first`: that of the source, or of the earlier rank
     First,
-    /// `last`: the element behind
+    /// `last`: that of the target, or of the later rank
     Last,
 }
 
 /// In which sequence the elements of many ranks are joined.
 #[derive(Clone, Copy)]
 pub enum How {
-    /// `halves`: each half of the ranks, and then both
+    /// `halves`: neighbours in pairs, again and again, so that half are left each time
     Halves,
-    /// `left`: the first two, and then each next one
+    /// `left`: the first two, and then what is joined with the next one
     Left,
 }
 

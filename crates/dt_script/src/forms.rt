@@ -109,10 +109,8 @@ fn give(alloc: Global, line: &[u8]) -> Result<Command, LineFault>
 fn copy(alloc: Global, line: &[u8]) -> Result<Command, LineFault>
     ensures { Gives (λ x. x) result (behind copy (words_of line.now)) }
 {
-    let (source_count, (source_type, (source, (source_origin, target)))) = Fields::read(
-        alloc, line,
-    )?;
-    let (target_count, (target_type, (target, (target_origin, ())))) = target;
+    let (source_count, (source_type, (source, (source_origin, rest)))) = Fields::read(alloc, line)?;
+    let (target_count, (target_type, (target, (target_origin, ())))) = rest;
     Ok(Command::Copy {
         source_count,
         source_type,
@@ -140,8 +138,8 @@ fn import(alloc: Global, line: &[u8]) -> Result<Command, LineFault>
 fn reduce(alloc: Global, line: &[u8]) -> Result<Command, LineFault>
     ensures { Gives (λ x. x) result (behind reduce (words_of line.now)) }
 {
-    let (op, (count, (ty, (source, (source_origin, target))))) = Fields::read(alloc, line)?;
-    let (target, (target_origin, ())) = target;
+    let (op, (count, (ty, (source, (source_origin, rest))))) = Fields::read(alloc, line)?;
+    let (target, (target_origin, ())) = rest;
     Ok(Command::Reduce {
         op,
         count,
