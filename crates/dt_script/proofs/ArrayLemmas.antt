@@ -18,7 +18,7 @@ use Rattle.dt_script.proofs.CutLemmas.{cut_sound, int_cut}
 use Rattle.dt_script.proofs.ReadingLemmas.{bind_some, from_some}
 
 -- a word that spells a value, or another word
-spelled : {A : Type 0} (Is : List ℕ → A → Type 0) (k w : List ℕ) (x : A) (other : Option A) (y : A) → Is k x
+pub spelled : {A : Type 0} (Is : List ℕ → A → Type 0) (k w : List ℕ) (x : A) (other : Option A) (y : A) → Is k x
     → cond (bytes_eq w k) (Some x) other ≡ Some y → (other ≡ Some y → Is w y) → Is w y
 spelled Is k w x other y is e else =
     elim (bytes_eq w k) as (λ b. (bytes_eq w k ≡ b) → cond b (Some x) other ≡ Some y → Is w y) [

@@ -2,11 +2,11 @@
 use Rattle.std.proofs.Common.{◌≡◌, ℕ, true, false, cond, List, [], ◌∷◌, Option, Some, None, option_map, refl, ap, sym, subst, ◌∙◌}
 use Rattle.std.proofs.lemmas.Slice.Eq.{bytes_eq-Decides}
 use Rattle.std.specs.Str.{bytes_eq}
-use Rattle.dt_script.specs.Form.{Fields, END, WORD, ◌&◌, EACH, REST, Form, Values, Spells, values_at, made_of, behind, one_of, any_of}
+use Rattle.dt_script.specs.Form.{Fields, END, WORD, ◌&◌, EACH, ONE_OR_MORE, REST, Form, Values, Spells, values_at, made_of, behind, one_of, any_of}
 use Rattle.dt_script.specs.Item.{IsItem, Words, ◌spell◌, ◌then◌, the}
 use Rattle.dt_script.specs.Reading.{end_at, keyword_at, item_at, item_of}
 use Rattle.dt_script.proofs.ItemLemmas.{item_sound, item_complete}
-use Rattle.dt_script.proofs.ReadingLemmas.{bind_some, from_some, item_some, keyword_some, are_sound, are_complete}
+use Rattle.dt_script.proofs.ReadingLemmas.{bind_some, from_some, item_some, keyword_some, are_sound, are_complete, some_sound, some_complete}
 
 -- a form of its own to the end, where there is one, reads only what it spells; and reads all that it spells
 abbrev pub IsRestSound : Fields → Type 0
@@ -14,6 +14,7 @@ IsRestSound END = Unit {0}
 IsRestSound (WORD keyword fields) = IsRestSound fields
 IsRestSound (i & fields) = IsRestSound fields
 IsRestSound (EACH i) = Unit {0}
+IsRestSound (ONE_OR_MORE i) = Unit {0}
 IsRestSound (REST A rest) = (ws : Words) (x : A) → rest.read ws ≡ Some x → rest.Is ws x
 
 abbrev pub IsRestComplete : Fields → Type 0
@@ -21,6 +22,7 @@ IsRestComplete END = Unit {0}
 IsRestComplete (WORD keyword fields) = IsRestComplete fields
 IsRestComplete (i & fields) = IsRestComplete fields
 IsRestComplete (EACH i) = Unit {0}
+IsRestComplete (ONE_OR_MORE i) = Unit {0}
 IsRestComplete (REST A rest) = (ws : Words) (x : A) → rest.Is ws x → rest.read ws ≡ Some x
 
 end_sound : (ws : Words) → (x : Unit {0}) → end_at ws ≡ Some x → ws ≡ []
@@ -37,6 +39,7 @@ values_sound (i & fields) rest ws v e =
     let (more, others, ends) = bind_some (values_at fields words) _ v told in
     from_some (λ v. Spells (i & fields) v ws) (x, more) v ends (word, words, at, item_sound i word x is, values_sound fields rest words more others)
 values_sound (EACH i) rest ws v e = are_sound (IsItem i) (item_of i) (item_sound i) ws v e
+values_sound (ONE_OR_MORE i) rest ws v e = some_sound (IsItem i) (item_of i) (item_sound i) ws v e
 values_sound (REST A r) rest ws v e = rest ws v e
 
 values_complete : (fields : Fields) → IsRestComplete fields → (ws : Words) (v : Values fields) → Spells fields v ws → values_at fields ws ≡ Some v
@@ -47,6 +50,7 @@ values_complete (WORD keyword fields) rest ws v (words, at, told) =
 values_complete (i & fields) rest ws v (word, words, at, is, told) =
     rw (at, item_complete i word v.0 is, values_complete fields rest words v.1 told) refl
 values_complete (EACH i) rest ws v are = are_complete (IsItem i) (item_of i) (item_complete i) ws v are
+values_complete (ONE_OR_MORE i) rest ws v are = some_complete (IsItem i) (item_of i) (item_complete i) ws v are
 values_complete (REST A r) rest ws v is = rest ws v is
 
 -- a form makes what a relation says of its words

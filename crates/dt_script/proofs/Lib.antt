@@ -8,4 +8,5 @@ pub mod InputLemmas
 pub mod ItemLemmas
 pub mod LineLemmas
 pub mod ReadingLemmas
+pub mod ReductionLemmas
 pub mod WordLemmas

@@ -1,11 +1,11 @@
 -- What it tells of some words that reading them gave a value, one lemma for each reader.
-use Rattle.std.proofs.Common.{◌≡◌, ℕ, Bool, true, false, cond, List, [], ◌∷◌, Option, Some, None, refl, ap, subst}
+use Rattle.std.proofs.Common.{◌≡◌, ◌≢◌, ℕ, Bool, true, false, cond, List, [], ◌∷◌, Option, Some, None, refl, ap, subst}
 use Rattle.std.proofs.lemmas.Slice.Eq.{bytes_eq-Decides}
 use Rattle.std.specs.Bool.{IsTrue}
 use Rattle.std.specs.Str.{bytes_eq}
 use Rattle.dt_script.specs.Item.{IsName, Words, Are}
 use Rattle.dt_script.specs.Name.{is_name, name_of}
-use Rattle.dt_script.specs.Reading.{◌>>=◌, keyword_at, item_at, items_at}
+use Rattle.dt_script.specs.Reading.{◌>>=◌, keyword_at, item_at, items_at, one_or_more_at}
 
 pub bind_some : {A B : Type 0} (o : Option A) (f : A → Option B) (y : B) → (o >>= f) ≡ Some y → (x : A) × (o ≡ Some x) × (f x ≡ Some y)
 bind_some None f y e = cc
@@ -65,3 +65,19 @@ are_complete Is read one [] [] h = refl
 are_complete Is read one [] (x ∷ xs) h = absurd h
 are_complete Is read one (w ∷ ws) [] h = absurd h
 are_complete Is read one (w ∷ ws) (x ∷ xs) h = rw (one w x h.0, are_complete Is read one ws xs h.1) refl
+
+-- words of which there is one spell a value each, so there is a value
+are_some : {A : Type 0} (Is : List ℕ → A → Type 0) (w : List ℕ) (ws : Words) (xs : List A) → Are Is (w ∷ ws) xs → xs ≢ []
+are_some Is w ws [] are e = are
+are_some Is w ws (x ∷ xs) are e = cc
+
+pub some_sound : {A : Type 0} (Is : List ℕ → A → Type 0) (read : List ℕ → Option A) → ((w : List ℕ) (x : A) → read w ≡ Some x → Is w x)
+    → (ws : Words) (xs : List A) → one_or_more_at read ws ≡ Some xs → (xs ≢ []) × Are Is ws xs
+some_sound Is read one [] xs e = cc
+some_sound Is read one (w ∷ ws) xs e = let are = are_sound Is read one (w ∷ ws) xs e in (are_some Is w ws xs are, are)
+
+pub some_complete : {A : Type 0} (Is : List ℕ → A → Type 0) (read : List ℕ → Option A) → ((w : List ℕ) (x : A) → Is w x → read w ≡ Some x)
+    → (ws : Words) (xs : List A) → (xs ≢ []) × Are Is ws xs → one_or_more_at read ws ≡ Some xs
+some_complete Is read one [] [] h = absurd (h.0 refl)
+some_complete Is read one [] (x ∷ xs) h = absurd h.1
+some_complete Is read one (w ∷ ws) xs h = are_complete Is read one (w ∷ ws) xs h.1

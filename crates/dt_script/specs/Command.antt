@@ -1,12 +1,12 @@
 -- The line forms as relations between the words of a line and a command, one case for each form.
-use Rattle.std.specs.Prelude.{codes}
+use Rattle.std.specs.Prelude.{◌≢◌, [], ⊤, codes}
 use Rattle.dt_script.specs.declared.command.Command.{Command}
-use Rattle.dt_script.specs.declared.command.Command.TheVariants.{Define, Child, Commit, Free, Info, Map, Envelope, Contents, Buffer, Show, Bytes, Elements, Pack, Take, Seek, Close, Unpack, Give, Weights, Normalise, Rebuild}
+use Rattle.dt_script.specs.declared.command.Command.TheVariants.{Define, Child, Commit, Free, Info, Map, Envelope, Contents, Buffer, Show, Bytes, Elements, Pack, Take, Seek, Close, Unpack, Give, Weights, Normalise, Rebuild, Copy, Export, Import, Reduce, Reduceall}
 use Rattle.dt_script.specs.declared.command.Ctor.{Ctor}
 use Rattle.dt_script.specs.declared.command.Ctor.TheVariants.{Contiguous, Vector, Hvector, Indexed, Hindexed, IndexedBlock, HindexedBlock, Struct, Resized, Dup, Subarray, Darray}
 use Rattle.dt_script.specs.declared.command.Fill.{Fill}
 use Rattle.dt_script.specs.declared.command.Fill.TheVariants.{Zero, Count, Hex}
-use Rattle.dt_script.specs.Item.{INT, ADDR, NAME, HEX, REP, ORDER, INT_BLOCK, ADDR_BLOCK, PART, SUB_DIM, DIST_DIM, Words, ◌spell◌, ◌then◌, the, item, each, end}
+use Rattle.dt_script.specs.Item.{INT, ADDR, NAME, HEX, REP, ORDER, OP, HOW, INT_BLOCK, ADDR_BLOCK, PART, SUB_DIM, DIST_DIM, Words, ◌spell◌, ◌then◌, the, item, each, one_or_more, end}
 
 -- what follows `=` in `type NAME = CTOR`
 abbrev pub IsCtor : Words → Ctor → Type 0
@@ -65,3 +65,20 @@ IsCommand words (Weights leaf vector index place group part) =
     words spell the (codes "weights") then item INT leaf then item INT vector then item INT index then item INT place then item INT group then item INT part then end
 IsCommand words (Normalise ty) = words spell the (codes "normalise") then item NAME ty then end
 IsCommand words (Rebuild name ty) = words spell the (codes "rebuild") then item NAME name then the (codes "=") then item NAME ty then end
+IsCommand words (Copy source_count source_type source source_origin target_count target_type target target_origin) =
+    words spell the (codes "copy")
+    then item INT source_count then item NAME source_type then item NAME source then item ADDR source_origin
+    then item INT target_count then item NAME target_type then item NAME target then item ADDR target_origin then end
+IsCommand words (Export ty) = words spell the (codes "export") then item NAME ty then end
+IsCommand words (Import name wire) = words spell the (codes "import") then item NAME name then the (codes "=") then item HEX wire then end
+IsCommand words (Reduce op count ty source source_origin target target_origin) =
+    words spell the (codes "reduce") then item OP op then item INT count then item NAME ty
+    then item NAME source then item ADDR source_origin then item NAME target then item ADDR target_origin then end
+IsCommand words (Reduceall op how count ty origin target ranks) =
+    words spell the (codes "reduceall") then item OP op then item HOW how then item INT count then item NAME ty
+    then item ADDR origin then item NAME target then one_or_more NAME ranks
+
+-- a reduction of ranks has one; no other command asks for ranks
+abbrev pub HasRanks : Command → Type 0
+HasRanks (Reduceall op how count ty origin target ranks) = ranks ≢ []
+HasRanks command = ⊤

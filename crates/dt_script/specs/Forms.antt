@@ -1,14 +1,14 @@
 -- The line forms by description: the words of each in their order, which say how it is read.
 use Rattle.std.specs.Prelude.{List, [], ◌∷◌, Option, codes}
 use Rattle.dt_script.specs.declared.command.Command.{Command}
-use Rattle.dt_script.specs.declared.command.Command.TheVariants.{Define, Child, Commit, Free, Info, Map, Envelope, Contents, Buffer, Show, Bytes, Elements, Pack, Take, Seek, Close, Unpack, Give, Weights, Normalise, Rebuild}
+use Rattle.dt_script.specs.declared.command.Command.TheVariants.{Define, Child, Commit, Free, Info, Map, Envelope, Contents, Buffer, Show, Bytes, Elements, Pack, Take, Seek, Close, Unpack, Give, Weights, Normalise, Rebuild, Copy, Export, Import, Reduce, Reduceall}
 use Rattle.dt_script.specs.declared.command.Ctor.{Ctor}
 use Rattle.dt_script.specs.declared.command.Ctor.TheVariants.{Contiguous, Vector, Hvector, Indexed, Hindexed, IndexedBlock, HindexedBlock, Struct, Resized, Dup, Subarray, Darray}
 use Rattle.dt_script.specs.declared.command.Fill.{Fill}
 use Rattle.dt_script.specs.declared.command.Fill.TheVariants.{Zero, Count, Hex}
 use Rattle.dt_script.specs.Command.{IsCtor, IsFill}
-use Rattle.dt_script.specs.Item.{INT, ADDR, NAME, HEX, REP, ORDER, INT_BLOCK, ADDR_BLOCK, PART, SUB_DIM, DIST_DIM, Words}
-use Rattle.dt_script.specs.Form.{END, WORD, ◌&◌, EACH, REST, Rest, Form, form, any_of}
+use Rattle.dt_script.specs.Item.{INT, ADDR, NAME, HEX, REP, ORDER, OP, HOW, INT_BLOCK, ADDR_BLOCK, PART, SUB_DIM, DIST_DIM, Words}
+use Rattle.dt_script.specs.Form.{END, WORD, ◌&◌, EACH, ONE_OR_MORE, REST, Rest, Form, form, any_of}
 
 -- constructors
 abbrev pub contiguous : Form Ctor
@@ -146,9 +146,30 @@ normalise = form (codes "normalise") (NAME & END) Normalise
 abbrev pub rebuild : Form Command
 rebuild = form (codes "rebuild") (NAME & WORD (codes "=") (NAME & END)) Rebuild
 
--- those that receive; those on sessions, and the former; those on trees, and these; those on buffers and received bytes, and these; those that ask about types, and these; and all
+abbrev pub copy : Form Command
+copy = form (codes "copy") (INT & NAME & NAME & ADDR & INT & NAME & NAME & ADDR & END) Copy
+
+abbrev pub export : Form Command
+export = form (codes "export") (NAME & END) Export
+
+abbrev pub import : Form Command
+import = form (codes "import") (NAME & WORD (codes "=") (HEX & END)) Import
+
+abbrev pub reduce : Form Command
+reduce = form (codes "reduce") (OP & INT & NAME & NAME & ADDR & NAME & ADDR & END) Reduce
+
+abbrev pub reduceall : Form Command
+reduceall = form (codes "reduceall") (OP & HOW & INT & NAME & ADDR & NAME & ONE_OR_MORE NAME) Reduceall
+
+-- those that reduce; those on copies and wire texts, and the former; those that receive, and these; those on sessions, and these; those on trees, and these; those on buffers and received bytes, and these; those that ask about types, and these; and all
+unfoldable pub reduction_forms : List (Form Command)
+reduction_forms = reduce ∷ reduceall ∷ []
+
+unfoldable pub copy_forms : List (Form Command)
+copy_forms = copy ∷ export ∷ import ∷ reduction_forms
+
 unfoldable pub unpack_forms : List (Form Command)
-unpack_forms = unpack ∷ give ∷ []
+unpack_forms = unpack ∷ give ∷ copy_forms
 
 unfoldable pub session_forms : List (Form Command)
 session_forms = pack ∷ take ∷ seek ∷ close ∷ unpack_forms

@@ -1,5 +1,5 @@
 -- What one word spells, and what words spell one after another.
-use Rattle.std.specs.Prelude.{◌≡◌, ℕ, ℤ, List, [], ◌∷◌, ◌++◌, Option, Some, None, IsTrue, codes}
+use Rattle.std.specs.Prelude.{◌≡◌, ◌≢◌, ℕ, ℤ, List, [], ◌∷◌, ◌++◌, Option, Some, None, IsTrue, codes}
 use Rattle.dt_form.specs.declared.form.IntBlock.{IntBlock}
 use Rattle.dt_form.specs.declared.form.AddrBlock.{AddrBlock}
 use Rattle.dt_form.specs.declared.form.Dist.{Dist}
@@ -10,7 +10,11 @@ use Rattle.dt_form.specs.declared.form.Order.TheVariants.{C, Fortran}
 use Rattle.dt_form.specs.declared.form.SubDim.{SubDim}
 use Rattle.dt_kinds.specs.declared.kind.Rep.{Rep}
 use Rattle.dt_kinds.specs.declared.kind.Rep.TheVariants.{Native, External32}
+use Rattle.dt_script.specs.declared.command.How.{How}
+use Rattle.dt_script.specs.declared.command.How.TheVariants.{Halves, Left}
 use Rattle.dt_script.specs.declared.command.NamedPart.{NamedPart}
+use Rattle.dt_script.specs.declared.command.Op.{Op}
+use Rattle.dt_script.specs.declared.command.Op.TheVariants.{Sum, Prod, Min, Max, And, Or, Xor, First, Last}
 use Rattle.dt_script.specs.Hex.{hex_of}
 use Rattle.dt_script.specs.Name.{is_name}
 use Rattle.dt_script.specs.Number.{int_of, address_of}
@@ -59,6 +63,23 @@ abbrev pub IsOrder : List ℕ → Order → Type 0
 IsOrder word C = word ≡ codes "c"
 IsOrder word Fortran = word ≡ codes "fortran"
 
+-- `sum`, `prod`, `min`, `max`, `and`, `or`, `xor`, `first` or `last`
+abbrev pub IsOp : List ℕ → Op → Type 0
+IsOp word Sum = word ≡ codes "sum"
+IsOp word Prod = word ≡ codes "prod"
+IsOp word Min = word ≡ codes "min"
+IsOp word Max = word ≡ codes "max"
+IsOp word And = word ≡ codes "and"
+IsOp word Or = word ≡ codes "or"
+IsOp word Xor = word ≡ codes "xor"
+IsOp word First = word ≡ codes "first"
+IsOp word Last = word ≡ codes "last"
+
+-- `halves` or `left`
+abbrev pub IsHow : List ℕ → How → Type 0
+IsHow word Halves = word ≡ codes "halves"
+IsHow word Left = word ≡ codes "left"
+
 -- `block`, `cyclic` or `none`
 abbrev pub IsDist : List ℕ → Dist → Type 0
 IsDist word Block = word ≡ codes "block"
@@ -85,7 +106,7 @@ IsDistDim word dim =
 
 -- the kinds of words that a line form may ask for, beside words that stand there as they are
 pub data Item : Type 0 where
-  INT ADDR NAME HEX REP ORDER INT_BLOCK ADDR_BLOCK PART SUB_DIM DIST_DIM : Item
+  INT ADDR NAME HEX REP ORDER OP HOW INT_BLOCK ADDR_BLOCK PART SUB_DIM DIST_DIM : Item
 
 -- what a word of a kind spells
 abbrev pub Value : Item → Type 0
@@ -95,6 +116,8 @@ Value NAME = List ℕ
 Value HEX = List ℕ
 Value REP = Rep
 Value ORDER = Order
+Value OP = Op
+Value HOW = How
 Value INT_BLOCK = IntBlock
 Value ADDR_BLOCK = AddrBlock
 Value PART = NamedPart
@@ -109,6 +132,8 @@ IsItem NAME = IsName
 IsItem HEX = IsHex
 IsItem REP = IsRep
 IsItem ORDER = IsOrder
+IsItem OP = IsOp
+IsItem HOW = IsHow
 IsItem INT_BLOCK = IsIntBlock
 IsItem ADDR_BLOCK = IsAddrBlock
 IsItem PART = IsPart
@@ -148,6 +173,10 @@ item i x text words = (word : List ℕ) × (behind : Words) × (words ≡ word �
 -- words that spell these values, to the end
 abbrev pub each : (i : Item) → List (Value i) → Text
 each i xs words = Are (IsItem i) words xs
+
+-- the same, of one value at least
+abbrev pub one_or_more : (i : Item) → List (Value i) → Text
+one_or_more i xs words = (xs ≢ []) × Are (IsItem i) words xs
 
 -- no more words
 abbrev pub end : Text

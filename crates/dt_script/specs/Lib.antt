@@ -10,4 +10,5 @@ pub mod Name
 pub mod Number
 pub mod Olds
 pub mod Reading
+pub mod Reduction
 pub mod Words

@@ -12,9 +12,10 @@ use Rattle.dt_script.specs.declared.command.NamedPart.{NamedPart}
 use Rattle.dt_script.specs.declared.line.LineFault.{LineFault}
 use Rattle.dt_script.specs.declared.line.LineFault.TheVariants.{Syntax}
 use Rattle.dt_script.specs.Hex.{hex_of}
-use Rattle.dt_script.specs.Item.{Item, INT, ADDR, NAME, HEX, REP, ORDER, INT_BLOCK, ADDR_BLOCK, PART, SUB_DIM, DIST_DIM, Value}
+use Rattle.dt_script.specs.Item.{Item, INT, ADDR, NAME, HEX, REP, ORDER, OP, HOW, INT_BLOCK, ADDR_BLOCK, PART, SUB_DIM, DIST_DIM, Value}
 use Rattle.dt_script.specs.Name.{name_of}
 use Rattle.dt_script.specs.Number.{int_of, address_of}
+use Rattle.dt_script.specs.Reduction.{op_of, how_of}
 
 infixl 10 ◌>>=◌
 abbrev pub ◌>>=◌ : {A B : Type 0} → Option A → (A → Option B) → Option B
@@ -61,6 +62,11 @@ items_at read (word ∷ words) = do
   item ← read word
   items ← items_at read words
   Some (item ∷ items)
+
+-- what all the words spell, where there is one at least
+abbrev pub one_or_more_at : {A : Type 0} → (List ℕ → Option A) → List (List ℕ) → Option (List A)
+one_or_more_at read [] = None
+one_or_more_at read (word ∷ words) = items_at read (word ∷ words)
 
 -- the bytes of a word before the first mark, and those behind it
 abbrev pub cut_of : ℕ → List ℕ → Option (List ℕ × List ℕ)
@@ -135,6 +141,8 @@ item_of NAME = name_of
 item_of HEX = hex_of
 item_of REP = rep_of
 item_of ORDER = order_of
+item_of OP = op_of
+item_of HOW = how_of
 item_of INT_BLOCK = int_block_of
 item_of ADDR_BLOCK = address_block_of
 item_of PART = part_of

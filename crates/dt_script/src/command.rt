@@ -123,6 +123,79 @@ pub enum Command {
         name: Name,
         ty: Name,
     },
+    /// `copy COUNT TYPE BUFFER ORIGIN COUNT TYPE BUFFER ORIGIN`, the source and then the target
+    Copy {
+        source_count: i32,
+        source_type: Name,
+        source: Name,
+        source_origin: i64,
+        target_count: i32,
+        target_type: Name,
+        target: Name,
+        target_origin: i64,
+    },
+    /// `export TYPE`
+    Export {
+        ty: Name,
+    },
+    /// `import NAME = HEX`
+    Import {
+        name: Name,
+        wire: Bytes,
+    },
+    /// `reduce OP COUNT TYPE BUFFER ORIGIN BUFFER ORIGIN`, the source and then the target
+    Reduce {
+        op: Op,
+        count: i32,
+        ty: Name,
+        source: Name,
+        source_origin: i64,
+        target: Name,
+        target_origin: i64,
+    },
+    /// `reduceall OP HOW COUNT TYPE ORIGIN TARGET` and the ranks in their order, one at least
+    Reduceall {
+        op: Op,
+        how: How,
+        count: i32,
+        ty: Name,
+        origin: i64,
+        target: Name,
+        ranks: Items<Name>,
+    },
+}
+
+/// How a reduction joins two elements of one kind: that of the source with that of the target, or that of a rank with that of a
+/// later one.
+#[derive(Clone, Copy)]
+pub enum Op {
+    /// `sum`, modulo the range of the kind
+    Sum,
+    /// `prod`, modulo the range of the kind
+    Prod,
+    /// `min`
+    Min,
+    /// `max`
+    Max,
+    /// `and`, bit by bit
+    And,
+    /// `or`, bit by bit
+    Or,
+    /// `xor`, bit by bit
+    Xor,
+    /// `first`: that of the source, or of the earlier rank
+    First,
+    /// `last`: that of the target, or of the later rank
+    Last,
+}
+
+/// In which sequence the elements of many ranks are joined.
+#[derive(Clone, Copy)]
+pub enum How {
+    /// `halves`: neighbours in pairs, again and again, so that half are left each time
+    Halves,
+    /// `left`: the first two, and then what is joined with the next one
+    Left,
 }
 
 /// What makes a type, with old types by their names. Lengths of blocks count copies; a stride or a displacement counts extents of

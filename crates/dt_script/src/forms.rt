@@ -3,14 +3,14 @@ ghost use Rattle.std.specs.Prelude.{◌≡◌};
 ghost use Rattle.dt_script.specs.Words.{words_of};
 ghost use Rattle.dt_script.specs.Reading.{Gives};
 ghost use Rattle.dt_script.specs.Form.{behind, one_of};
-ghost use Rattle.dt_script.specs.Forms.{hex, fill_of, define, child, buffer, give, weights, rebuild, unpack_forms, session_forms, tree_forms, buffer_forms, question_forms, command_of};
+ghost use Rattle.dt_script.specs.Forms.{hex, fill_of, define, child, buffer, give, weights, rebuild, copy, import, reduce, reduceall, reduction_forms, copy_forms, unpack_forms, session_forms, tree_forms, buffer_forms, question_forms, command_of};
 
 use crate::command::{Command, Fill};
 use crate::ctors::ctor;
 use crate::fields::Fields;
 use crate::line::LineFault;
 use crate::name::Name;
-use crate::reading::{end, hex, item, keyword, word};
+use crate::reading::{end, hex, item, keyword, one_or_more, word};
 use std::alloc::Global;
 
 /// `HEX`
@@ -105,7 +105,106 @@ fn give(alloc: Global, line: &[u8]) -> Result<Command, LineFault>
     Ok(Command::Give { session, bytes })
 }
 
-/// What follows the first word of a command that receives.
+/// `COUNT TYPE BUFFER ORIGIN COUNT TYPE BUFFER ORIGIN`
+fn copy(alloc: Global, line: &[u8]) -> Result<Command, LineFault>
+    ensures { Gives (λ x. x) result (behind copy (words_of line.now)) }
+{
+    let (source_count, (source_type, (source, (source_origin, rest)))) = Fields::read(alloc, line)?;
+    let (target_count, (target_type, (target, (target_origin, ())))) = rest;
+    Ok(Command::Copy {
+        source_count,
+        source_type,
+        source,
+        source_origin,
+        target_count,
+        target_type,
+        target,
+        target_origin,
+    })
+}
+
+/// `NAME = HEX`
+fn import(alloc: Global, line: &[u8]) -> Result<Command, LineFault>
+    ensures { Gives (λ x. x) result (behind import (words_of line.now)) }
+{
+    let (name, line) = item(line)?;
+    let line = keyword(b"=", line)?;
+    let (wire, line) = hex(alloc, line)?;
+    end(line)?;
+    Ok(Command::Import { name, wire })
+}
+
+/// `OP COUNT TYPE BUFFER ORIGIN BUFFER ORIGIN`
+fn reduce(alloc: Global, line: &[u8]) -> Result<Command, LineFault>
+    ensures { Gives (λ x. x) result (behind reduce (words_of line.now)) }
+{
+    let (op, (count, (ty, (source, (source_origin, rest))))) = Fields::read(alloc, line)?;
+    let (target, (target_origin, ())) = rest;
+    Ok(Command::Reduce {
+        op,
+        count,
+        ty,
+        source,
+        source_origin,
+        target,
+        target_origin,
+    })
+}
+
+/// `OP HOW COUNT TYPE ORIGIN TARGET` and the ranks
+fn reduceall(alloc: Global, line: &[u8]) -> Result<Command, LineFault>
+    ensures { Gives (λ x. x) result (behind reduceall (words_of line.now)) }
+{
+    let (op, line) = item(line)?;
+    let (how, line) = item(line)?;
+    let (count, line) = item(line)?;
+    let (ty, line) = item(line)?;
+    let (origin, line) = item(line)?;
+    let (target, line) = item(line)?;
+    let ranks = one_or_more(alloc, line)?;
+    Ok(Command::Reduceall {
+        op,
+        how,
+        count,
+        ty,
+        origin,
+        target,
+        ranks,
+    })
+}
+
+/// What follows the first word of a command that reduces.
+#[tactic(auto, unfolding(crate::specs::Forms::reduction_forms))]
+fn on_reductions(alloc: Global, first: &[u8], line: &[u8]) -> Result<Command, LineFault>
+    ensures { Gives (λ x. x) result (one_of reduction_forms first.now (words_of line.now)) }
+{
+    if first == b"reduce".as_slice() {
+        reduce(alloc, line)
+    } else if first == b"reduceall".as_slice() {
+        reduceall(alloc, line)
+    } else {
+        Err(LineFault::Syntax)
+    }
+}
+
+/// What follows the first word of a command on copies or wire texts, or of one that reduces.
+#[tactic(auto, unfolding(crate::specs::Forms::copy_forms))]
+fn on_copies(alloc: Global, first: &[u8], line: &[u8]) -> Result<Command, LineFault>
+    ensures { Gives (λ x. x) result (one_of copy_forms first.now (words_of line.now)) }
+{
+    if first == b"copy".as_slice() {
+        copy(alloc, line)
+    } else if first == b"export".as_slice() {
+        let (ty, ()) = Fields::read(alloc, line)?;
+        Ok(Command::Export { ty })
+    } else if first == b"import".as_slice() {
+        import(alloc, line)
+    } else {
+        on_reductions(alloc, first, line)
+    }
+}
+
+/// What follows the first word of a command that receives, or of one on copies, wire texts or reductions.
 #[tactic(auto, unfolding(crate::specs::Forms::unpack_forms))]
 fn on_unpack(alloc: Global, first: &[u8], line: &[u8]) -> Result<Command, LineFault>
     ensures { Gives (λ x. x) result (one_of unpack_forms first.now (words_of line.now)) }
@@ -123,7 +222,7 @@ fn on_unpack(alloc: Global, first: &[u8], line: &[u8]) -> Result<Command, LineFa
     } else if first == b"give".as_slice() {
         give(alloc, line)
     } else {
-        Err(LineFault::Syntax)
+        on_copies(alloc, first, line)
     }
 }
 

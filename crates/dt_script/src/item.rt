@@ -3,12 +3,14 @@ ghost use Rattle.std.specs.Prelude.{◌≡◌, List, ℕ, Option, MatchOption, S
 ghost use Rattle.dt_script.specs.Array.{order_of};
 ghost use Rattle.dt_script.specs.Name.{name_of};
 ghost use Rattle.dt_script.specs.Number.{int_of, address_of};
+ghost use Rattle.dt_script.specs.Reduction.{op_of, how_of};
 ghost use Rattle.dt_script.specs.Reading.{cut_of, rep_of, int_block_of, address_block_of, part_of, sub_dim_of, dist_dim_of};
 
 use crate::array::{darg, dist, order};
-use crate::command::NamedPart;
+use crate::command::{How, NamedPart, Op};
 use crate::name::Name;
 use crate::number::{address, int};
+use crate::reduction::{how, op};
 use dt_form::{AddrBlock, DistDim, IntBlock, Order, SubDim};
 use dt_kinds::Rep;
 
@@ -63,6 +65,22 @@ impl Item for Order {
 
     fn of_word(word: &[u8]) -> Option<Order> {
         order(word)
+    }
+}
+
+impl Item for Op {
+    ghost item_of = { op_of };
+
+    fn of_word(word: &[u8]) -> Option<Op> {
+        op(word)
+    }
+}
+
+impl Item for How {
+    ghost item_of = { how_of };
+
+    fn of_word(word: &[u8]) -> Option<How> {
+        how(word)
     }
 }
 

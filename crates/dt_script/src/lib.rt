@@ -14,10 +14,11 @@ pub mod lines;
 pub mod name;
 mod number;
 mod reading;
+mod reduction;
 mod words;
 
 pub use bytes::Bytes;
-pub use command::{Command, Ctor, Fill, NamedPart, WordTest};
+pub use command::{Command, Ctor, Fill, How, NamedPart, Op, WordTest};
 pub use line::{LineFault, parse_line};
 pub use lines::first_line;
 pub use name::Name;

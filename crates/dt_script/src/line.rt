@@ -1,6 +1,7 @@
-ghost use Rattle.std.specs.Prelude.{◌≡◌};
+ghost use Rattle.std.specs.Prelude.{◌≡◌, IfOk, IfSome};
 ghost use Rattle.std.specs.List.{list_all};
 ghost use Rattle.dt_script.specs.Words.{words_of};
+ghost use Rattle.dt_script.specs.Command.{HasRanks};
 ghost use Rattle.dt_script.specs.Line.{IsRead, begins_with_hash, is_passed_over, is_text, is_text_byte};
 
 use crate::command::Command;
@@ -62,9 +63,11 @@ fn is_passed_over(line: &[u8]) -> bool
 }
 
 /// The command of a line, without its end: None for a blank or comment line, and a syntax fault for every other line
-/// that is in no line form. A line means one thing alone (`laws::one_meaning`). Memory is taken for lists and bytes alone.
+/// that is in no line form. A line means one thing alone (`laws::one_meaning`), and a reduction of ranks has one. Memory is taken
+/// for lists and bytes alone.
 pub fn parse_line(alloc: Global, line: &[u8]) -> Result<Option<Command>, LineFault>
-    ensures { IsRead line.now result }
+    ensures meaning { IsRead line.now result }
+    ensures ranks { IfOk result (λ found. IfSome found HasRanks) }
 {
     if is_passed_over(line) {
         return Ok(None);

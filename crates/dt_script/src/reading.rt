@@ -3,7 +3,7 @@ ghost use Rattle.std.specs.Prelude.{◌≡◌, ℕ, List};
 ghost use Rattle.std.specs.Borrow.{Bor};
 ghost use Rattle.dt_script.specs.Words.{words_of};
 ghost use Rattle.dt_script.specs.Hex.{hex_of};
-ghost use Rattle.dt_script.specs.Reading.{Gives, word_at, end_at, keyword_at, item_at, items_at};
+ghost use Rattle.dt_script.specs.Reading.{Gives, word_at, end_at, keyword_at, item_at, items_at, one_or_more_at};
 
 use crate::bytes::Bytes;
 use crate::item::Item;
@@ -81,4 +81,14 @@ pub(crate) fn items<T: Item + Drop>(alloc: Global, line: &[u8]) -> Result<Items<
         rest = after;
     }
     Ok(items)
+}
+
+/// All the words that are left, one at least.
+pub(crate) fn one_or_more<T: Item + Drop>(alloc: Global, line: &[u8]) -> Result<Items<T>, LineFault>
+    ensures { Gives (λ x. x) result (one_or_more_at T.item_of (words_of line.now)) }
+{
+    match next_word(line) {
+        Some(_) => items(alloc, line),
+        None => Err(LineFault::Syntax),
+    }
 }

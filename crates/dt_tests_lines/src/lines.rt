@@ -451,7 +451,7 @@ const RESPELT: [(&[u8], &str); 19] = [
 ];
 
 /// The first of some lines that isn't read as they all are.
-fn other_line<'a>(
+pub(crate) fn other_line<'a>(
     alloc: Global,
     lines: &[&'a [u8]],
     wanted: &[u8],
@@ -493,7 +493,10 @@ fn lines_in_no_form(rt: HostRuntime) -> Result<(), Fail> {
 }
 
 /// The first of some lines that isn't spelled as it stands.
-fn respelt<'a>(alloc: Global, lines: &[&'a [u8]]) -> Result<Option<&'a [u8]>, AllocError> {
+pub(crate) fn respelt<'a>(
+    alloc: Global,
+    lines: &[&'a [u8]],
+) -> Result<Option<&'a [u8]>, AllocError> {
     for line in lines {
         if spelled(alloc, line)?.as_slice() != *line {
             return Ok(Some(line));
@@ -518,7 +521,7 @@ fn lines_with_commands(rt: HostRuntime) -> Result<(), Fail> {
 }
 
 /// The first spelling that a line isn't read as.
-fn other_spelling(
+pub(crate) fn other_spelling(
     alloc: Global,
     rows: &[(&[u8], &'static str)],
 ) -> Result<Option<&'static str>, AllocError> {

@@ -1,7 +1,7 @@
 //! Commands spelled as text: words with one space between, numbers without leading zeros, hexadecimal digits in lower case.
 
 use dt_kinds::Rep;
-use dt_script::{Bytes, Command, Ctor, Fill, LineFault, Name, NamedPart, parse_line};
+use dt_script::{Bytes, Command, Ctor, Fill, How, LineFault, Name, NamedPart, Op, parse_line};
 use dt_type::{AddrBlock, Dist, DistDim, IntBlock, Order, SubDim};
 use itoa::Buffer;
 use std::alloc::{AllocError, Global};
@@ -78,13 +78,29 @@ fn push_operation(
     origin: i64,
 ) -> Result<(), AllocError> {
     push_word(out, representation(rep))?;
+    push_copies(out, count, ty, buffer, origin)
+}
+
+/// Copies of a type in a buffer.
+fn push_copies(
+    out: &mut Vec<u8>,
+    count: i32,
+    ty: &Name,
+    buffer: &Name,
+    origin: i64,
+) -> Result<(), AllocError> {
     push_number(out, i64::from(count))?;
     push_word(out, ty.as_bytes())?;
+    push_place(out, buffer, origin)
+}
+
+/// A buffer and an origin in it.
+fn push_place(out: &mut Vec<u8>, buffer: &Name, origin: i64) -> Result<(), AllocError> {
     push_word(out, buffer.as_bytes())?;
     push_number(out, origin)
 }
 
-/// The commands on open sessions and on trees; nothing for the others.
+/// The commands on open sessions and on trees, and those that follow them.
 fn push_later_command(
     alloc: Global,
     out: &mut Vec<u8>,
@@ -128,7 +144,94 @@ fn push_later_command(
             push_query(out, b"rebuild", name)?;
             push_query(out, b" =", ty)
         }
+        _ => push_copying(alloc, out, command),
+    }
+}
+
+/// The commands on copies, wire texts and reductions; nothing for the others.
+fn push_copying(alloc: Global, out: &mut Vec<u8>, command: &Command) -> Result<(), AllocError> {
+    match command {
+        Command::Copy {
+            source_count,
+            source_type,
+            source,
+            source_origin,
+            target_count,
+            target_type,
+            target,
+            target_origin,
+        } => {
+            out.extend_from_slice(b"copy")?;
+            push_copies(out, *source_count, source_type, source, *source_origin)?;
+            push_copies(out, *target_count, target_type, target, *target_origin)
+        }
+        Command::Export { ty } => push_query(out, b"export", ty),
+        Command::Import { name, wire } => {
+            push_query(out, b"import", name)?;
+            push_word(out, b"=")?;
+            push_hex(alloc, out, wire)
+        }
+        Command::Reduce {
+            op,
+            count,
+            ty,
+            source,
+            source_origin,
+            target,
+            target_origin,
+        } => {
+            out.extend_from_slice(b"reduce")?;
+            push_word(out, op_word(*op))?;
+            push_copies(out, *count, ty, source, *source_origin)?;
+            push_place(out, target, *target_origin)
+        }
+        Command::Reduceall {
+            op,
+            how,
+            count,
+            ty,
+            origin,
+            target,
+            ranks,
+        } => {
+            out.extend_from_slice(b"reduceall")?;
+            push_word(out, op_word(*op))?;
+            push_word(out, how_word(*how))?;
+            push_number(out, i64::from(*count))?;
+            push_word(out, ty.as_bytes())?;
+            push_number(out, *origin)?;
+            push_word(out, target.as_bytes())?;
+            push_names(out, ranks.as_slice())
+        }
         _ => Ok(()),
+    }
+}
+
+fn push_names(out: &mut Vec<u8>, names: &[Name]) -> Result<(), AllocError> {
+    for name in names {
+        push_word(out, name.as_bytes())?;
+    }
+    Ok(())
+}
+
+fn op_word(op: Op) -> &'static [u8] {
+    match op {
+        Op::Sum => b"sum",
+        Op::Prod => b"prod",
+        Op::Min => b"min",
+        Op::Max => b"max",
+        Op::And => b"and",
+        Op::Or => b"or",
+        Op::Xor => b"xor",
+        Op::First => b"first",
+        Op::Last => b"last",
+    }
+}
+
+fn how_word(how: How) -> &'static [u8] {
+    match how {
+        How::Halves => b"halves",
+        How::Left => b"left",
     }
 }
 
