@@ -11,9 +11,9 @@ use Rattle.dt_type.specs.declared.datatype.Seen.{Seen, out-Seen, roll-Seen}
 use Rattle.dt_form.specs.declared.form.FormOf.TheVariants.{Named, Vector, HindexedBlock, Resized}
 use Rattle.dt_form.specs.Contents.{contents_of, envelope_of}
 use Rattle.dt_type.specs.Form.{result_of}
-use Rattle.dt_reply.specs.declared.refusal.Refusal.TheVariants.{TooHeavy}
+use Rattle.dt_reply.specs.declared.refusal.Refusal.TheVariants.{TooHeavy, SignatureDiffers}
 use Rattle.dt_reply.specs.Reply.{text_of, line_of, info_words, sizes_words, extent_words, true_bounds_words, map_words, envelope_words, number_words, contents_words, listed_words, tree_words, receipt_words}
-use Rattle.dt_reply.specs.declared.reply.Reply.TheVariants.{Packed, Shown, Told, Listed, Described, Contained, Least, Counted, Opened, Given, Closed, Refused}
+use Rattle.dt_reply.specs.declared.reply.Reply.TheVariants.{Packed, Shown, Told, Listed, Described, Contained, Least, Counted, Opened, Given, Closed, Copied, Wire, Reduced, ReducedAll, Refused}
 
 abbrev int_at : ℤ → Entry
 int_at x = record { kind = Int; disp = x }
@@ -57,6 +57,10 @@ refused : text_of (Refused TooHeavy) ≡ codes "refused 12 too heavy\n"
 unfolding digits line_of
 refused = refl
 
+refused_copy : text_of (Refused SignatureDiffers) ≡ codes "refused 20 signature differs\n"
+unfolding digits line_of
+refused_copy = refl
+
 -- a tree from 4 bytes below the origin on
 least : text_of (Least 4 (negsuc 3) (codes "vector 3 1 8 leaf MPI_INT")) ≡ codes "tree cost 4 base -4 vector 3 1 8 leaf MPI_INT\n"
 unfolding digits line_of tree_words
@@ -82,6 +86,23 @@ closed = refl
 opened : text_of (Opened 16) ≡ codes "ok 16\n"
 unfolding digits line_of
 opened = refl
+
+copied : text_of (Copied 2 8) ≡ codes "copied 2 bytes 8\n"
+unfolding digits line_of
+copied = refl
+
+-- the type MPI_INT
+spelled : text_of (Wire (100 ∷ 116 ∷ 119 ∷ 49 ∷ 0 ∷ 6 ∷ [])) ≡ codes "wire 6 647477310006\n"
+unfolding digits encode_with line_of
+spelled = refl
+
+reduced : text_of (Reduced 2) ≡ codes "reduced 2\n"
+unfolding digits line_of
+reduced = refl
+
+reduced_all : text_of (ReducedAll 1 3) ≡ codes "reduced 1 ranks 3\n"
+unfolding digits line_of
+reduced_all = refl
 
 abbrev int : Seen
 int = result_of (Named Int)

@@ -1,7 +1,7 @@
 -- No two refusals have one number.
 use Rattle.std.proofs.Common.{◌≡◌, ℕ, ◌==◌, cond, refl, sym, ap, ◌∙◌}
 use Rattle.dt_reply.specs.declared.refusal.Refusal.{Refusal}
-use Rattle.dt_reply.specs.declared.refusal.Refusal.TheVariants.{Syntax, UnknownName, NameTaken, UnsupportedKind, NotCommitted, BasicType, NamedType, NoSuchChild, BadArgument, Overflow, TooDeep, TooHeavy, TooManyNames, TooManyEntries, Outside, Overlap, TooLarge, WrongDirection, Truncated}
+use Rattle.dt_reply.specs.declared.refusal.Refusal.TheVariants.{Syntax, UnknownName, NameTaken, UnsupportedKind, NotCommitted, BasicType, NamedType, NoSuchChild, BadArgument, Overflow, TooDeep, TooHeavy, TooManyNames, TooManyEntries, Outside, Overlap, TooLarge, WrongDirection, Truncated, SignatureDiffers, SameBuffer, BadWire}
 use Rattle.dt_reply.specs.Refusal.{number_of}
 
 -- the refusal of a number
@@ -11,7 +11,7 @@ of_number n =
     (cond (n == 5) NotCommitted (cond (n == 6) BasicType (cond (n == 7) NamedType (cond (n == 8) NoSuchChild (cond (n == 9) BadArgument
     (cond (n == 10) Overflow (cond (n == 11) TooDeep (cond (n == 12) TooHeavy (cond (n == 13) TooManyNames
     (cond (n == 14) TooManyEntries (cond (n == 15) Outside (cond (n == 16) Overlap (cond (n == 17) TooLarge
-    (cond (n == 18) WrongDirection Truncated)))))))))))))))))
+    (cond (n == 18) WrongDirection (cond (n == 19) Truncated (cond (n == 20) SignatureDiffers (cond (n == 21) SameBuffer BadWire))))))))))))))))))))
 
 back : (refusal : Refusal) → of_number (number_of refusal) ≡ refusal
 back Syntax = refl
@@ -33,6 +33,9 @@ back Overlap = refl
 back TooLarge = refl
 back WrongDirection = refl
 back Truncated = refl
+back SignatureDiffers = refl
+back SameBuffer = refl
+back BadWire = refl
 
 pub one_refusal : (a b : Refusal) → number_of a ≡ number_of b → a ≡ b
 one_refusal a b same = sym (back a) ∙ ap of_number same ∙ back b

@@ -1,7 +1,7 @@
 -- The number and the word of each refusal.
 use Rattle.std.specs.Prelude.{ℕ, List, codes}
 use Rattle.dt_reply.specs.declared.refusal.Refusal.{Refusal}
-use Rattle.dt_reply.specs.declared.refusal.Refusal.TheVariants.{Syntax, UnknownName, NameTaken, UnsupportedKind, NotCommitted, BasicType, NamedType, NoSuchChild, BadArgument, Overflow, TooDeep, TooHeavy, TooManyNames, TooManyEntries, Outside, Overlap, TooLarge, WrongDirection, Truncated}
+use Rattle.dt_reply.specs.declared.refusal.Refusal.TheVariants.{Syntax, UnknownName, NameTaken, UnsupportedKind, NotCommitted, BasicType, NamedType, NoSuchChild, BadArgument, Overflow, TooDeep, TooHeavy, TooManyNames, TooManyEntries, Outside, Overlap, TooLarge, WrongDirection, Truncated, SignatureDiffers, SameBuffer, BadWire}
 
 abbrev pub number_of : Refusal → ℕ
 number_of Syntax = 1
@@ -23,6 +23,9 @@ number_of Overlap = 16
 number_of TooLarge = 17
 number_of WrongDirection = 18
 number_of Truncated = 19
+number_of SignatureDiffers = 20
+number_of SameBuffer = 21
+number_of BadWire = 22
 
 abbrev pub word_of : Refusal → List ℕ
 word_of Syntax = codes "syntax"
@@ -44,3 +47,6 @@ word_of Overlap = codes "overlap"
 word_of TooLarge = codes "too large"
 word_of WrongDirection = codes "wrong direction"
 word_of Truncated = codes "truncated"
+word_of SignatureDiffers = codes "signature differs"
+word_of SameBuffer = codes "same buffer"
+word_of BadWire = codes "bad wire"

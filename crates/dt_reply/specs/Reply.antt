@@ -19,7 +19,7 @@ use Rattle.dt_type.specs.Datatype.{form_of}
 use Rattle.dt_reply.specs.Refusal.{number_of, word_of}
 use Rattle.dt_reply.specs.declared.receipt.Receipt.{Receipt}
 use Rattle.dt_reply.specs.declared.reply.Reply.{Reply}
-use Rattle.dt_reply.specs.declared.reply.Reply.TheVariants.{Silent, Done, Packed, Shown, Told, Listed, Described, Contained, Least, Counted, Opened, Given, Closed, Refused}
+use Rattle.dt_reply.specs.declared.reply.Reply.TheVariants.{Silent, Done, Packed, Shown, Told, Listed, Described, Contained, Least, Counted, Opened, Given, Closed, Copied, Wire, Reduced, ReducedAll, Refused}
 
 -- a word behind a space
 abbrev pub spaced : List ℕ → List ℕ
@@ -157,6 +157,14 @@ receipt_words r =
 abbrev pub closed_words : ℕ → ℕ → List (List ℕ)
 closed_words passed all = codes "bytes" ∷ decimal passed ∷ codes "of" ∷ decimal all ∷ []
 
+-- how many elements were copied, and how many bytes these have
+abbrev pub copied_words : ℕ → ℕ → List (List ℕ)
+copied_words elements bytes = decimal elements ∷ codes "bytes" ∷ decimal bytes ∷ []
+
+-- how many elements were reduced, and over how many ranks
+abbrev pub ranks_words : ℕ → ℕ → List (List ℕ)
+ranks_words elements ranks = decimal elements ∷ codes "ranks" ∷ decimal ranks ∷ []
+
 -- the line that a reply writes
 abbrev pub text_of : Reply → List ℕ
 text_of Silent = []
@@ -172,6 +180,10 @@ text_of (Counted elements copies) = line_of (codes "elements") (counts_words ele
 text_of (Opened all) = line_of (codes "ok") (decimal all ∷ [])
 text_of (Given receipt) = line_of (codes "given") (receipt_words receipt)
 text_of (Closed passed all) = line_of (codes "closed") (closed_words passed all)
+text_of (Copied elements bytes) = line_of (codes "copied") (copied_words elements bytes)
+text_of (Wire bytes) = line_of (codes "wire") (bytes_words bytes)
+text_of (Reduced elements) = line_of (codes "reduced") (decimal elements ∷ [])
+text_of (ReducedAll elements ranks) = line_of (codes "reduced") (ranks_words elements ranks)
 text_of (Refused refusal) = line_of (codes "refused") (decimal (number_of refusal) ∷ word_of refusal ∷ [])
 
 -- every reply but a refusal

@@ -11,7 +11,8 @@ mod text;
 pub use receipt::Receipt;
 pub use refusal::Refusal;
 pub use reply::{
-    OK, Reply, closed_line, contents_line, counts_line, envelope_line, info_line, map_line,
-    ok_line, opened_line, packed_line, receipt_line, refusal_line, shown_line, tree_line,
+    OK, Reply, closed_line, contents_line, copied_line, counts_line, envelope_line, info_line,
+    map_line, ok_line, opened_line, packed_line, receipt_line, reduced_all_line, reduced_line,
+    refusal_line, shown_line, tree_line, wire_line,
 };
 pub use reserved::{RECEIPT_ROOM, write_receipt};

@@ -41,8 +41,14 @@ pub enum Refusal {
     TooLarge,
     /// Bytes would be taken from an unpack session, or sought in it, or given to a pack session.
     WrongDirection,
-    /// More bytes would be given than are still to come.
+    /// More bytes would be given than are still to come, or more elements would be copied than there are places for.
     Truncated,
+    /// An element would be copied to the place of one of another kind.
+    SignatureDiffers,
+    /// A buffer would be changed by itself.
+    SameBuffer,
+    /// The bytes spell no type.
+    BadWire,
 }
 
 impl Refusal {
@@ -70,6 +76,9 @@ impl Refusal {
             Refusal::TooLarge => 17,
             Refusal::WrongDirection => 18,
             Refusal::Truncated => 19,
+            Refusal::SignatureDiffers => 20,
+            Refusal::SameBuffer => 21,
+            Refusal::BadWire => 22,
         }
     }
 
@@ -97,6 +106,9 @@ impl Refusal {
             Refusal::TooLarge => "too large",
             Refusal::WrongDirection => "wrong direction",
             Refusal::Truncated => "truncated",
+            Refusal::SignatureDiffers => "signature differs",
+            Refusal::SameBuffer => "same buffer",
+            Refusal::BadWire => "bad wire",
         }
     }
 }

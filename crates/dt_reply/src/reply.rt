@@ -1,7 +1,7 @@
 //! What is replied, and the line that says so. Each line is made in new memory, and `NoMemory` is answered where that runs out.
 ghost use Rattle.std.specs.Prelude.{◌≡◌, ◌++◌, IfOk, OnOk, OnErr};
 ghost use Rattle.dt_reply.specs.Reply.{text_of, is_accepted, bytes_words, line_of};
-ghost use Rattle.dt_reply.specs.declared.reply.Reply.TheVariants.{Closed, Contained, Counted, Described, Done, Given, Least, Listed, Opened, Packed, Refused, Shown, Told};
+ghost use Rattle.dt_reply.specs.declared.reply.Reply.TheVariants.{Closed, Contained, Copied, Counted, Described, Done, Given, Least, Listed, Opened, Packed, Reduced, ReducedAll, Refused, Shown, Told, Wire};
 
 use crate::arguments::{push_envelope, push_listed, push_types};
 use crate::receipt::Receipt;
@@ -50,6 +50,13 @@ pub fn shown_line(alloc: Global, bytes: &[u8]) -> Result<Vec<u8>, NoMemory>
     ensures { IfOk result (λ line. line.items ≡ text_of (Shown bytes.now)) }
 {
     bytes_line(alloc, b"show", bytes)
+}
+
+/// `wire LENGTH HEX`: the bytes that spell a type.
+pub fn wire_line(alloc: Global, bytes: &[u8]) -> Result<Vec<u8>, NoMemory>
+    ensures { IfOk result (λ line. line.items ≡ text_of (Wire bytes.now)) }
+{
+    bytes_line(alloc, b"wire", bytes)
 }
 
 /// A word, how many bytes there are, and the bytes.
@@ -184,6 +191,42 @@ pub fn closed_line(alloc: Global, passed: u64, all: u64) -> Result<Vec<u8>, NoMe
     Ok(line)
 }
 
+/// `copied ELEMENTS bytes BYTES`: how many elements were copied, and how many bytes these have in memory.
+#[tactic(auto, unfolding(crate::specs::Reply::line_of))]
+pub fn copied_line(alloc: Global, elements: u64, bytes: u64) -> Result<Vec<u8>, NoMemory>
+    ensures { IfOk result (λ line. line.items ≡ text_of (Copied elements bytes)) }
+{
+    let mut line = Vec::from_slice(alloc, b"copied")?;
+    push_number(&mut line, elements)?;
+    push_field(&mut line, b"bytes", bytes)?;
+    line.extend_from_slice(b"\n")?;
+    Ok(line)
+}
+
+/// `reduced ELEMENTS`: how many elements were reduced by as many others (MPI 4.1, section 6.9).
+#[tactic(auto, unfolding(crate::specs::Reply::line_of))]
+pub fn reduced_line(alloc: Global, elements: u64) -> Result<Vec<u8>, NoMemory>
+    ensures { IfOk result (λ line. line.items ≡ text_of (Reduced elements)) }
+{
+    let mut line = Vec::from_slice(alloc, b"reduced")?;
+    push_number(&mut line, elements)?;
+    line.extend_from_slice(b"\n")?;
+    Ok(line)
+}
+
+/// `reduced ELEMENTS ranks NUMBER`: how many elements each rank gave that were reduced, and how many ranks there were (MPI 4.1,
+/// section 6.9).
+#[tactic(auto, unfolding(crate::specs::Reply::line_of))]
+pub fn reduced_all_line(alloc: Global, elements: u64, ranks: u64) -> Result<Vec<u8>, NoMemory>
+    ensures { IfOk result (λ line. line.items ≡ text_of (ReducedAll elements ranks)) }
+{
+    let mut line = Vec::from_slice(alloc, b"reduced")?;
+    push_number(&mut line, elements)?;
+    push_field(&mut line, b"ranks", ranks)?;
+    line.extend_from_slice(b"\n")?;
+    Ok(line)
+}
+
 /// What is replied to a line.
 #[derive(Drop)]
 pub enum Reply {
@@ -213,6 +256,14 @@ pub enum Reply {
     Given(Receipt),
     /// A session ended: how many packed bytes were passed, and how many there are.
     Closed { passed: u64, all: u64 },
+    /// How many elements were copied, and how many bytes these have in memory.
+    Copied { elements: u64, bytes: u64 },
+    /// The bytes that spell a type.
+    Wire(Bytes),
+    /// How many elements were reduced by as many others.
+    Reduced { elements: u64 },
+    /// How many elements each rank gave that were reduced, and how many ranks there were.
+    ReducedAll { elements: u64, ranks: u64 },
     /// A refusal.
     Refused(Refusal),
 }
@@ -236,6 +287,10 @@ impl Reply {
             Reply::Opened(all) => opened_line(alloc, *all),
             Reply::Given(receipt) => receipt_line(alloc, *receipt),
             Reply::Closed { passed, all } => closed_line(alloc, *passed, *all),
+            Reply::Copied { elements, bytes } => copied_line(alloc, *elements, *bytes),
+            Reply::Wire(bytes) => wire_line(alloc, bytes.as_slice()),
+            Reply::Reduced { elements } => reduced_line(alloc, *elements),
+            Reply::ReducedAll { elements, ranks } => reduced_all_line(alloc, *elements, *ranks),
             Reply::Refused(refusal) => refusal_line(alloc, *refusal),
         }
     }
