@@ -3,7 +3,9 @@ ghost use Rattle.std.specs.Prelude.{◌≡◌, ◌≤◌, ℤ, IsErrOf, IfErr, I
 ghost use Rattle.dt_copy.specs.Copied.{copied};
 ghost use Rattle.dt_copy.specs.Plan.{copy_of, AreInside, CanCopy, IsRefused};
 ghost use Rattle.dt_copy.specs.declared.fault.CopyFault.TheVariants as CopyFault;
+ghost use Rattle.dt_kinds.specs.declared.kind.Rep.TheVariants.{Native};
 ghost use Rattle.dt_map.specs.Elements.{elements};
+ghost use Rattle.dt_map.specs.Packed.{total};
 ghost use Rattle.dt_type.specs.Datatype.{typemap_of};
 
 use crate::copying::copy_bytes;
@@ -95,6 +97,20 @@ impl CopyPlan {
             target: to,
             elements: elements as u64,
         })
+    }
+
+    /// How many elements are copied, which are all of the source's.
+    pub fn elements(&self) -> u64
+        ensures { result ≡ length self.now.source }
+    {
+        self.elements
+    }
+
+    /// How many bytes these elements have in memory.
+    pub fn bytes(&self) -> u64
+        ensures { result ≡ total Native self.now.source }
+    {
+        self.source.total()
     }
 
     /// Copies: each element of the source, as it lies in its buffer now, is written to the place of the target's element of the same
