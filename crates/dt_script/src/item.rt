@@ -3,8 +3,8 @@ ghost use Rattle.std.specs.Prelude.{◌≡◌, List, ℕ, Option, MatchOption, S
 ghost use Rattle.dt_script.specs.Array.{order_of};
 ghost use Rattle.dt_script.specs.Name.{name_of};
 ghost use Rattle.dt_script.specs.Number.{int_of, address_of};
-ghost use Rattle.dt_script.specs.Reduction.{op_of, how_of};
 ghost use Rattle.dt_script.specs.Reading.{cut_of, rep_of, int_block_of, address_block_of, part_of, sub_dim_of, dist_dim_of};
+ghost use Rattle.dt_script.specs.Reduction.{op_of, how_of};
 
 use crate::array::{darg, dist, order};
 use crate::command::{How, NamedPart, Op};
