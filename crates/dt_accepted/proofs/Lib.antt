@@ -1,3 +1,4 @@
 pub mod Ranges
+pub mod Rounds
 pub mod Stands
 pub mod Vectors
