@@ -2,3 +2,4 @@ pub mod Ranges
 pub mod Rounds
 pub mod Stands
 pub mod Vectors
+pub mod Words
