@@ -1,5 +1,6 @@
 pub mod Ranges
 pub mod Rounds
+pub mod Spelled
 pub mod Stands
 pub mod Vectors
 pub mod Words
