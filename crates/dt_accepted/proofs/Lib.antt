@@ -1,3 +1,4 @@
+pub mod Commands
 pub mod Ranges
 pub mod Rounds
 pub mod Spelled

@@ -187,3 +187,12 @@ pub piece_length : (r at n : ℕ) → length (piece r at n) ≡ n
 unfolding piece
 piece_length r at zero = refl
 piece_length r at (suc n) = ap suc (piece_length r (suc at) n)
+
+-- one, and no byte
+pub one_read : int_of (codes "1") ≡ Some (pos 1)
+unfolding int_of
+one_read = refl
+
+pub zero_read : address_of (codes "0") ≡ Some (pos 0)
+unfolding address_of
+zero_read = refl
