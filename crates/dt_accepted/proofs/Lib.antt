@@ -1,4 +1,5 @@
 pub mod Commands
+pub mod Drawn
 pub mod Ranges
 pub mod Rounds
 pub mod Spelled

@@ -26,7 +26,7 @@ use Rattle.dt_accepted.proofs.Stands.{entry_at, Stands, stands_same, stands_one,
 use Rattle.dt_accepted.proofs.Ranges.{unmarked, stands_extent}
 
 -- groups of groups
-flat_groups : {X Y A : Type 0} (f : Y → List A) (g : X → List Y) (xs : List X) → flat_map f (flat_map g xs) ≡ flat_map (λ x. flat_map f (g x)) xs
+pub flat_groups : {X Y A : Type 0} (f : Y → List A) (g : X → List Y) (xs : List X) → flat_map f (flat_map g xs) ≡ flat_map (λ x. flat_map f (g x)) xs
 flat_groups f g [] = refl
 flat_groups f g (x ∷ xs) =
     flat_map-append f (g x) (flat_map g xs) ∙ ap (λ ys. flat_map f (g x) ++ ys) (flat_groups f g xs)
@@ -43,7 +43,7 @@ no_marks : (xs : List ℤ) (es : List Entry) → placed_marks (map (λ x. (x, un
 no_marks [] es = refl
 no_marks (x ∷ xs) es = no_marks xs es
 
-copies_unmarked : (xs : List ℤ) (es : List Entry) → copies_at xs (unmarked es) ≡ unmarked (flat_map (λ x. shift x es) xs)
+pub copies_unmarked : (xs : List ℤ) (es : List Entry) → copies_at xs (unmarked es) ≡ unmarked (flat_map (λ x. shift x es) xs)
 copies_unmarked xs es =
     ap (λ marks. let m : Marked = record { entries = (copies_at xs (unmarked es)).entries; marks = marks } in m) (no_marks xs es) ∙ ap unmarked (placed_at xs es)
 
@@ -55,20 +55,20 @@ typemap_is form = ap (λ (l : Layer). let m : Marked = record { entries = l.entr
 abbrev pub basic_of : Kind → Seen
 basic_of kind = result_of (Named kind)
 
-abbrev one_of : Kind → List Entry
+abbrev pub one_of : Kind → List Entry
 one_of kind = entry_at kind 0 ∷ []
 
-kind_map : (kind : Kind) → typemap_of (basic_of kind) ≡ unmarked (one_of kind)
+pub kind_map : (kind : Kind) → typemap_of (basic_of kind) ≡ unmarked (one_of kind)
 kind_map kind = typemap_is (Named kind)
 
 one_extent : (kind : Kind) → extent_of (unmarked (one_of kind)) ≡ pos (native_size kind)
 one_extent Byte = refl
 one_extent _ = refl
 
-kind_extent : (kind : Kind) → extent_of (typemap_of (basic_of kind)) ≡ pos (native_size kind)
+pub kind_extent : (kind : Kind) → extent_of (typemap_of (basic_of kind)) ≡ pos (native_size kind)
 kind_extent kind = ap extent_of (kind_map kind) ∙ one_extent kind
 
-size_of_pos : (n : ℕ) → nat_abs (pos n) ≡ n
+pub size_of_pos : (n : ℕ) → nat_abs (pos n) ≡ n
 size_of_pos n = omega (arith, ints)
 
 -- one block of a vector
