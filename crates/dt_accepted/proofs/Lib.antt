@@ -1,5 +1,6 @@
 pub mod Commands
 pub mod Drawn
+pub mod Entries
 pub mod Ranges
 pub mod Rounds
 pub mod Spelled
