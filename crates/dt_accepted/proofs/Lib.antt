@@ -1,8 +1,10 @@
 pub mod Commands
 pub mod Drawn
 pub mod Entries
+pub mod Performing
 pub mod Ranges
 pub mod Rounds
+pub mod Rules
 pub mod Spelled
 pub mod Stands
 pub mod Vectors

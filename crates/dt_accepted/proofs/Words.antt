@@ -75,7 +75,7 @@ one_line : (text rest : List ℕ) → is_text text ≡ true → script_lines (te
 one_line text rest h = ap (map without_return) (raw_line text rest h) ∙ ap (λ l. l ∷ script_lines rest) (kept_whole text h)
 
 -- the bytes of words
-abbrev joined : List ℕ → List (List ℕ) → List ℕ
+abbrev pub joined : List ℕ → List (List ℕ) → List ℕ
 joined first words = first ++ flat_map spaced words
 
 word_parts : (word : List ℕ) → is_word word ≡ true → (not (is_empty word) ≡ true) × (list_all is_printable word ≡ true)

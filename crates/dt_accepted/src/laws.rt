@@ -1,7 +1,7 @@
 //! Laws of generated scripts.
-ghost use Rattle.std.specs.Prelude.{◌≡◌, ℕ};
+ghost use Rattle.dt_accepted.specs.Accepted.{EveryCommandIsAccepted};
 
-/// TODO
+/// However the lines of a generated script are obeyed, one after another from the first state, none is refused.
 pub fn every_command_is_accepted()
-    ensures { (n : ℕ) → n ≡ n }
+    ensures { EveryCommandIsAccepted }
 {}
