@@ -1,11 +1,13 @@
 pub mod Commands
 pub mod Drawn
 pub mod Entries
+pub mod Known
 pub mod Performing
 pub mod Ranges
 pub mod Rounds
 pub mod Rules
 pub mod Spelled
 pub mod Stands
+pub mod Turns
 pub mod Vectors
 pub mod Words

@@ -1,4 +1,5 @@
-use Rattle.dt_accepted.proofs.Performing.{good_normalise}
+use Rattle.dt_accepted.proofs.Turns.{good_turns}
+use Rattle.dt_accepted.proofs.Drawn.{large_text}
 use Rattle.dt_accepted.proofs.laws.every_command_is_accepted.Goals as goal
 
 pub returns : goal.returns
