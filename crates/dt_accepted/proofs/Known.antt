@@ -44,7 +44,7 @@ pub record BuffersBefore (r : ℕ) (buffers : List (List ℕ × List ℕ)) : Typ
 -- two things under names of a round leave the names of later rounds free
 module _ {A : Type 0} (one other : ℕ) (r : ℕ) (few : r ≤ 99) (apart : ¬ (one ≡ other)) (es : List (List ℕ × A)) (x y : A)
     (free : AreFree (one ∷ []) (other ∷ []) r es) where
-  first_free : under (name (one ∷ []) r) es ≡ None
+  pub first_free : under (name (one ∷ []) r) es ≡ None
   first_free = (free r (omega arith) few).0
 
   pub second_free : under (name (other ∷ []) r) (more es (name (one ∷ []) r) x) ≡ None

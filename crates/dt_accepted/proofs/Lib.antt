@@ -2,10 +2,12 @@ pub mod Commands
 pub mod Drawn
 pub mod Entries
 pub mod Known
+pub mod OneRound
 pub mod Performing
 pub mod Ranges
 pub mod Rounds
 pub mod Rules
+pub mod Scripts
 pub mod Spelled
 pub mod Stands
 pub mod Turns

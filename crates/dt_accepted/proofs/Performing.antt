@@ -240,6 +240,10 @@ good_unpack s first words name ty buffer kept bytes rest means sound can apart n
     ∙ ap (λ (b : List ℕ). with_count (with_session s name (unpacking buffer (receiving kept Native (pos 1) (pos 0) (length b))))) (one_found (buffer_of s buffer) bytes held can.over there)))
     after next)
 
+-- no length is negative
+pub not_below : (n : ℕ) → int_lt (pos n) (pos 0) ≡ false
+not_below n = grind arith
+
 -- `take`
 abbrev pub taken_from : State → List ℕ → Opened → ℕ → State
 taken_from s session o asked =
@@ -261,9 +265,6 @@ good_take s first words session o asked rest means sound stands packs next =
     (λ t reply after (other, held, is, there, said, new).
     goes_on reply _ t (taken_from s session o asked) rest said refl
     (new ∙ ap (λ (x : Opened). taken_from s session x asked) (one_found (session_of s session) o other stands is)) after next)
-  where
-    not_below : (n : ℕ) → int_lt (pos n) (pos 0) ≡ false
-    not_below n = grind arith
 
 -- `give`
 pub good_give : (s : State) (first : List ℕ) (words : List (List ℕ)) (session buffer : List ℕ) (u : unpack.Session) (piece rest : List ℕ)

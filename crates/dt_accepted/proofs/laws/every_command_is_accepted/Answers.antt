@@ -1,6 +1,5 @@
-use Rattle.dt_accepted.proofs.Turns.{good_turns}
-use Rattle.dt_accepted.proofs.Drawn.{large_text}
+use Rattle.dt_accepted.proofs.Scripts.{every_command_is_accepted}
 use Rattle.dt_accepted.proofs.laws.every_command_is_accepted.Goals as goal
 
 pub returns : goal.returns
-returns c = ?
+returns c = every_command_is_accepted
