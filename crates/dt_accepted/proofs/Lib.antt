@@ -2,6 +2,7 @@ pub mod Commands
 pub mod Drawn
 pub mod Entries
 pub mod Known
+pub mod Lines
 pub mod OneRound
 pub mod Performing
 pub mod Ranges

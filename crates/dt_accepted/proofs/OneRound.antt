@@ -166,6 +166,9 @@ module _ (r : ℕ) (few : r ≤ 99) (d : Round) (is : IsRound d) where
   abbrev filled : State → State
   filled s = with_count (with_buffer (counted s) (name (codes "z") r) (bytes_of (Zero (pos (rows_len d)))))
 
+  counted_differs : ¬ (◌≡◌ {A = ℕ} 98 122)
+  counted_differs same = omega (arith, same)
+
   good_buffers : (s : State) (rest : List ℕ) → IsSound s → BuffersBefore r s.buffers → (IsSound (filled s) → Good (filled s) rest)
       → Good s (buffer_lines r d ++ rest)
   unfolding buffer_lines
@@ -179,13 +182,12 @@ module _ (r : ℕ) (few : r ≤ 99) (d : Round) (is : IsRound d) where
       let empty = zero_length (rows_len d) in
       let more = one_more (name (codes "b") r) bytes_counted s.buffers in
       let sum = sum_more (name (codes "b") r) bytes_counted length s.buffers in
-      let differ : ¬ (98 ≡ 122) = λ same. absurd (omega (arith, same)) in
       subst (Good s) (sym (append_assoc a b rest))
       (good_buffer s (codes "buffer") _ (name (codes "b") r) (Count (pos (rows_len d))) (b ++ rest) (counted_means r few (rows_len d) (omega (arith, small))) sound
-      (first_free 98 122 r few differ s.buffers bytes_counted bytes_empty before.free) (contrary _ (not_below (rows_len d))) (omega (arith, many))
+      (first_free 98 122 r few counted_differs s.buffers bytes_counted bytes_empty before.free) (contrary _ (not_below (rows_len d))) (omega (arith, many))
       (omega (arith, long, small)) (omega (arith, long, small, held)) (λ first.
       good_buffer (counted s) (codes "buffer") _ (name (codes "z") r) (Zero (pos (rows_len d))) rest (zeros_means r few (rows_len d) (omega (arith, small))) first
-      (second_free 98 122 r few differ s.buffers bytes_counted bytes_empty before.free) (contrary _ (not_below (rows_len d))) (omega (arith, many, more))
+      (second_free 98 122 r few counted_differs s.buffers bytes_counted bytes_empty before.free) (contrary _ (not_below (rows_len d))) (omega (arith, many, more))
       (omega (arith, empty, small)) (omega (arith, long, empty, small, held, sum)) next))
 
   -- the states behind the lines of its sessions

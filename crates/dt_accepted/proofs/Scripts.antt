@@ -11,7 +11,7 @@ use Rattle.dt_script.specs.declared.command.Ctor.TheVariants.{IndexedBlock}
 use Rattle.dt_machine.specs.Pieces.{IsSound}
 use Rattle.dt_machine.specs.State.{State, first_state, type_of, with_type, with_count}
 use Rattle.dt_machine.proofs.Sound.{sound_is_kept}
-use Rattle.dt_accepted.specs.Accepted.{EveryCommandIsAccepted}
+use Rattle.dt_accepted.specs.Accepted.{EveryCommandIsAccepted, EveryAnswerIsAccepted}
 use Rattle.dt_accepted.proofs.Drawn.{drawn, large_means, large_normalise_means, large_form, large_many, large_allowed, large_text}
 use Rattle.dt_accepted.proofs.Entries.{new_stands}
 use Rattle.dt_accepted.proofs.OneRound.{Before, kind_stands, counts, good_round}
@@ -84,3 +84,6 @@ good_script n =
 
 pub every_command_is_accepted : EveryCommandIsAccepted
 every_command_is_accepted n replies last run = good_script n last replies run
+
+pub every_answer_is_accepted : EveryAnswerIsAccepted
+every_answer_is_accepted n text accepted a = a.told ∙ every_command_is_accepted n a.replies a.last a.run
