@@ -1,8 +1,8 @@
 -- What the lines of a round mean.
-use Rattle.std.proofs.Common.{◌≡◌, ℕ, zero, suc, ◌+◌, ◌-◌, ◌*◌, ◌≤◌, ◌<◌, true, false, ℤ, pos, List, [], ◌∷◌, codes, decimal, length, refl, arith}
+use Rattle.std.proofs.Common.{◌≡◌, ℕ, ◌≤◌, ◌<◌, true, false, pos, List, [], ◌∷◌, codes, decimal, length, refl, arith}
 use Rattle.dt_kinds.specs.declared.kind.Rep.TheVariants.{Native}
 use Rattle.dt_kinds.specs.Kind.{name_of}
-use Rattle.dt_gen.specs.Script.{name, row_step, rows_len, piece}
+use Rattle.dt_gen.specs.Script.{name, row_step, piece}
 use Rattle.dt_script.specs.declared.command.Command.{Command}
 use Rattle.dt_script.specs.declared.command.Command.TheVariants.{Define, Commit, Buffer, Pack, Take, Close, Unpack, Give, Normalise}
 use Rattle.dt_script.specs.declared.command.Ctor.TheVariants.{Vector, Hvector}
@@ -12,7 +12,7 @@ use Rattle.dt_script.specs.Item.{IsName}
 use Rattle.dt_script.specs.Line.{begins_with_hash}
 use Rattle.dt_script.specs.Name.{is_letter}
 use Rattle.hex.specs.Hex.{encode_lower}
-use Rattle.dt_accepted.proofs.Rounds.{Round, IsRound, step_small, rows_small}
+use Rattle.dt_accepted.proofs.Rounds.{Round, IsRound, step_small}
 use Rattle.dt_accepted.proofs.Spelled.{number_word, int_read, address_read, name_is, name_word, kind_word, kind_name, hex_word, hex_read, piece_bytes, piece_length, one_read, zero_read}
 use Rattle.dt_accepted.proofs.Words.{AreWords}
 
@@ -42,56 +42,54 @@ module _ (r : ℕ) (few : r ≤ 99) where
       let count = is.count in
       let stride = is.stride in
       record {
-        spelled =
+        spelled = (
+          refl,
+          (
+            name_word 118 r refl few,
             (
               refl,
               (
-                name_word 118 r refl few,
+                refl,
                 (
-                  refl,
-                  (
-                    refl,
-                    (
-                      number_word d.count (omega arith),
-                      (number_word d.block (omega arith), (number_word d.stride (omega arith), (kind_word d.kind, tt))),
-                    ),
-                  ),
+                  number_word d.count (omega arith),
+                  (number_word d.block (omega arith), (number_word d.stride (omega arith), (kind_word d.kind, tt))),
                 ),
               ),
-            );
+            ),
+          ),
+        );
         plain = refl;
-        read =
+        read = (
+          _,
+          refl,
+          (
+            _,
+            _,
+            refl,
+            named 118 refl,
             (
               _,
               refl,
               (
                 _,
-                _,
                 refl,
-                named 118 refl,
                 (
                   _,
+                  _,
                   refl,
+                  int_read d.count (omega arith),
                   (
                     _,
+                    _,
                     refl,
-                    (
-                      _,
-                      _,
-                      refl,
-                      int_read d.count (omega arith),
-                      (
-                        _,
-                        _,
-                        refl,
-                        int_read d.block (omega arith),
-                        (_, _, refl, int_read d.stride (omega arith), (_, _, refl, (refl, kind_name d.kind), refl)),
-                      ),
-                    ),
+                    int_read d.block (omega arith),
+                    (_, _, refl, int_read d.stride (omega arith), (_, _, refl, (refl, kind_name d.kind), refl)),
                   ),
                 ),
               ),
-            );
+            ),
+          ),
+        );
       }
 
   pub rows_means : (d : Round) → IsRound d
@@ -101,47 +99,45 @@ module _ (r : ℕ) (few : r ≤ 99) where
       let rows = is.rows in
       let step = step_small d is in
       record {
-        spelled =
-            (
-              refl,
-              (
-                name_word 104 r refl few,
-                (refl, (refl, (number_word d.rows (omega arith), (refl, (number_word (row_step d) (omega arith), (name_word 118 r refl few, tt)))))),
-              ),
-            );
+        spelled = (
+          refl,
+          (
+            name_word 104 r refl few,
+            (refl, (refl, (number_word d.rows (omega arith), (refl, (number_word (row_step d) (omega arith), (name_word 118 r refl few, tt)))))),
+          ),
+        );
         plain = refl;
-        read =
+        read = (
+          _,
+          refl,
+          (
+            _,
+            _,
+            refl,
+            named 104 refl,
             (
               _,
               refl,
               (
                 _,
-                _,
                 refl,
-                named 104 refl,
                 (
                   _,
+                  _,
                   refl,
+                  int_read d.rows (omega arith),
                   (
                     _,
+                    _,
                     refl,
-                    (
-                      _,
-                      _,
-                      refl,
-                      int_read d.rows (omega arith),
-                      (
-                        _,
-                        _,
-                        refl,
-                        one_read,
-                        (_, _, refl, address_read (row_step d) (omega arith), (_, _, refl, named 118 refl, refl)),
-                      ),
-                    ),
+                    one_read,
+                    (_, _, refl, address_read (row_step d) (omega arith), (_, _, refl, named 118 refl, refl)),
                   ),
                 ),
               ),
-            );
+            ),
+          ),
+        );
       }
 
   pub commit_means : Means (codes "commit") (rows_name ∷ []) (Commit rows_name)
@@ -172,30 +168,29 @@ module _ (r : ℕ) (few : r ≤ 99) where
   pack_means = record {
     spelled = (refl, (name_word 112 r refl few, (refl, (refl, (name_word 104 r refl few, (name_word 98 r refl few, (refl, tt)))))));
     plain = refl;
-    read =
+    read = (
+      _,
+      refl,
+      (
+        _,
+        _,
+        refl,
+        named 112 refl,
         (
           _,
+          _,
+          refl,
           refl,
           (
             _,
             _,
             refl,
-            named 112 refl,
-            (
-              _,
-              _,
-              refl,
-              refl,
-              (
-                _,
-                _,
-                refl,
-                one_read,
-                (_, _, refl, named 104 refl, (_, _, refl, named 98 refl, (_, _, refl, zero_read, refl))),
-              ),
-            ),
+            one_read,
+            (_, _, refl, named 104 refl, (_, _, refl, named 98 refl, (_, _, refl, zero_read, refl))),
           ),
-        );
+        ),
+      ),
+    );
   }
 
   pub unpack_means : Means (codes "unpack") (name (codes "u") r ∷ codes "native" ∷ codes "1" ∷ rows_name ∷ name (codes "z") r ∷ codes "0" ∷ [])
@@ -203,30 +198,29 @@ module _ (r : ℕ) (few : r ≤ 99) where
   unpack_means = record {
     spelled = (refl, (name_word 117 r refl few, (refl, (refl, (name_word 104 r refl few, (name_word 122 r refl few, (refl, tt)))))));
     plain = refl;
-    read =
+    read = (
+      _,
+      refl,
+      (
+        _,
+        _,
+        refl,
+        named 117 refl,
         (
           _,
+          _,
+          refl,
           refl,
           (
             _,
             _,
             refl,
-            named 117 refl,
-            (
-              _,
-              _,
-              refl,
-              refl,
-              (
-                _,
-                _,
-                refl,
-                one_read,
-                (_, _, refl, named 104 refl, (_, _, refl, named 122 refl, (_, _, refl, zero_read, refl))),
-              ),
-            ),
+            one_read,
+            (_, _, refl, named 104 refl, (_, _, refl, named 122 refl, (_, _, refl, zero_read, refl))),
           ),
-        );
+        ),
+      ),
+    );
   }
 
   -- of its turns

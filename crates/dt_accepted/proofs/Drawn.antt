@@ -1,5 +1,5 @@
 -- The large type of a script: its line, and what it places.
-use Rattle.std.proofs.Common.{◌≡◌, ℕ, zero, suc, ◌+◌, ◌*◌, ◌≤◌, ◌<◌, true, ℤ, pos, nat_abs, List, [], ◌∷◌, ◌++◌, map, length, codes, decimal, refl, sym, ap, subst, ◌∙◌, append_assoc, arith}
+use Rattle.std.proofs.Common.{◌≡◌, ℕ, zero, suc, ◌+◌, ◌*◌, ◌≤◌, ◌<◌, pos, List, [], ◌∷◌, ◌++◌, map, length, codes, decimal, refl, sym, ap, subst, ◌∙◌, append_assoc, arith}
 use Rattle.std.proofs.lemmas.List.{length-map}
 use Rattle.std.proofs.lemmas.List.Folds.{flat_map-map}
 use Rattle.std.specs.List.{flat_map}
@@ -25,7 +25,7 @@ use Rattle.dt_accepted.proofs.Commands.{Means}
 use Rattle.dt_accepted.proofs.Ranges.{unmarked, stands_in_range}
 use Rattle.dt_accepted.proofs.Rounds.{drawn_below, depth_is, weight_is}
 use Rattle.dt_accepted.proofs.Spelled.{number_word, int_read, one_read}
-use Rattle.dt_accepted.proofs.Stands.{entry_at, Behind, Stands}
+use Rattle.dt_accepted.proofs.Stands.{Behind, Stands}
 use Rattle.dt_accepted.proofs.Vectors.{basic_of, typemap_is, kind_map, kind_extent, one_of, size_of_pos, copies_unmarked, flat_groups}
 use Rattle.dt_accepted.proofs.Words.{AreWords}
 
@@ -68,18 +68,17 @@ pub large_means : (n word : ℕ) → n ≤ 1024
 large_means n word le = record {
   spelled = (refl, (refl, (refl, (refl, (refl, (refl, drawn_words n 0 word (omega arith)))))));
   plain = refl;
-  read =
-      (
-        _,
-        refl,
-        (
-          _,
-          _,
-          refl,
-          (refl, refl),
-          (_, refl, (_, refl, (_, _, refl, (refl, refl), (_, _, refl, one_read, drawn_read n 0 word (omega arith))))),
-        ),
-      );
+  read = (
+    _,
+    refl,
+    (
+      _,
+      _,
+      refl,
+      (refl, refl),
+      (_, refl, (_, refl, (_, _, refl, (refl, refl), (_, _, refl, one_read, drawn_read n 0 word (omega arith))))),
+    ),
+  );
 }
 
 pub large_normalise_means : Means (codes "normalise") (codes "big" ∷ []) (Normalise (codes "big"))

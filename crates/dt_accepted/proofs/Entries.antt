@@ -1,5 +1,5 @@
 -- What stands under names, as one more is put there, or another thing in the place of one.
-use Rattle.std.proofs.Common.{◌≡◌, ℕ, suc, ◌+◌, ◌≤◌, ◌<◌, Bool, true, false, cond, List, [], ◌∷◌, ◌++◌, length, get_or, codes, decimal, Option, Some, None, refl, sym, ap, subst, ◌∙◌, arith}
+use Rattle.std.proofs.Common.{◌≡◌, ℕ, suc, ◌+◌, ◌≤◌, Bool, true, false, cond, List, [], ◌∷◌, length, get_or, Some, None, refl, sym, ap, ◌∙◌, arith}
 use Rattle.std.proofs.lemmas.Bool.{false_from_ne_true}
 use Rattle.std.proofs.lemmas.Fmt.{decimal_injective}
 use Rattle.std.proofs.lemmas.List.Sums.{sum_by-cons}
@@ -28,7 +28,8 @@ named_at name other same = (bytes_eq-Decides name other).0 (sym (is_eq-slice_cmp
 pub other_at : (name other : List ℕ) → ¬ (name ≡ other) → at name other ≡ false
 other_at name other differ = false_from_ne_true (at name other) (λ there. differ (named_at name other there))
 
-abbrev more : {A : Type 0} → List (List ℕ × A) → List ℕ → A → List (List ℕ × A)
+-- one more of them, in the order of the names
+abbrev pub more : {A : Type 0} → List (List ℕ × A) → List ℕ → A → List (List ℕ × A)
 more es name x = insert_entry (slice_cmp nat_cmp) es name x
 
 -- one thing more

@@ -1,12 +1,8 @@
 -- What is known of the types, the buffers and the sessions between the lines of a script.
-use Rattle.std.proofs.Common.{◌≡◌, ℕ, zero, suc, ◌+◌, ◌*◌, ◌%◌, ◌≤◌, ◌<◌, true, false, cond, ℤ, pos, nat_abs, List, [], ◌∷◌, length, get_or, codes, Option, Some, None, refl, sym, ap, subst, ◌∙◌, arith}
-use Rattle.std.proofs.lemmas.Int.{ints}
+use Rattle.std.proofs.Common.{◌≡◌, ℕ, suc, ◌+◌, ◌*◌, ◌%◌, ◌≤◌, false, cond, pos, nat_abs, List, [], ◌∷◌, length, get_or, codes, Some, None, refl, sym, ap, ◌∙◌, arith}
 use Rattle.std.proofs.lemmas.List.{length-map, length-replicate}
-use Rattle.std.specs.BTreeMap.{insert_entry}
-use Rattle.std.specs.Cmp.Lexicographic.{slice_cmp}
 use Rattle.std.specs.Map.{set_value, remove_entry}
-use Rattle.std.specs.Ordering.{nat_cmp}
-use Rattle.dt_gen.specs.Script.{name, packed_len}
+use Rattle.dt_gen.specs.Script.{name}
 use Rattle.dt_names.specs.declared.kept.Kept.{Kept}
 use Rattle.dt_names.specs.Names.{under, bytes_in, bytes_of}
 use Rattle.dt_offsets.specs.Offsets.{below}
@@ -16,13 +12,8 @@ use Rattle.dt_script.specs.declared.command.Fill.TheVariants.{Zero, Count}
 use Rattle.dt_sessions.specs.declared.session.Opened.{Opened}
 use Rattle.dt_sessions.specs.Open.{packing, unpacking}
 use Rattle.dt_unpack.specs.Session as unpack
-use Rattle.dt_machine.specs.State.{State}
-use Rattle.dt_accepted.proofs.Entries.{at, same_at, other_at, new_stands, others_stand, one_more, sum_more, set_stands, set_many, set_free, sum_set, letters_differ, numbers_differ}
-use Rattle.dt_accepted.proofs.Rounds.{Round}
+use Rattle.dt_accepted.proofs.Entries.{at, more, same_at, other_at, others_stand, one_more, sum_more, set_many, set_free, sum_set, letters_differ, numbers_differ}
 use Rattle.dt_accepted.proofs.Vectors.{size_of_pos}
-
-abbrev more : {A : Type 0} → List (List ℕ × A) → List ℕ → A → List (List ℕ × A)
-more es name x = insert_entry (slice_cmp nat_cmp) es name x
 
 -- two names of a round, of which neither stands from some round on
 abbrev pub AreFree : {A : Type 0} → List ℕ → List ℕ → ℕ → List (List ℕ × A) → Type 0
@@ -57,12 +48,11 @@ module _ {A : Type 0} (one other : ℕ) (r : ℕ) (few : r ≤ 99) (apart : ¬ (
       let b = name (other ∷ []) r in
       let apart_i : ¬ (i ≡ r) = λ same. absurd (omega (arith, same, above)) in
       let before = free i (omega arith) most in
-      let reversed : ¬ (other ≡ one) = λ same. apart (sym same) in
-      (
+      let reversed : ¬ (other ≡ one) = λ same. apart (sym same) in (
         others_stand b y (name (one ∷ []) i) (letters_differ one other i r apart) (more es a x)
-        ∙ (others_stand a x (name (one ∷ []) i) (numbers_differ one i r most few apart_i) es ∙ before.0),
+            ∙ (others_stand a x (name (one ∷ []) i) (numbers_differ one i r most few apart_i) es ∙ before.0),
         others_stand b y (name (other ∷ []) i) (numbers_differ other i r most few apart_i) (more es a x)
-        ∙ (others_stand a x (name (other ∷ []) i) (letters_differ other one i r reversed) es ∙ before.1),
+            ∙ (others_stand a x (name (other ∷ []) i) (letters_differ other one i r reversed) es ∙ before.1),
       )
 
 -- the types after those of a round were made, and the second was committed
@@ -144,13 +134,8 @@ pub opened_two : (r : ℕ) (x y : Opened) → (let es : List (List ℕ × Opened
     ≡ (name (codes "p") r, x) ∷ (name (codes "u") r, y) ∷ []
 opened_two r x y = refl
 
+-- what stands under their names, and what is left where something is set there or taken away
 module _ (r : ℕ) where
-  sending : List ℕ
-  sending = name (codes "p") r
-
-  receiving : List ℕ
-  receiving = name (codes "u") r
-
   apart : at (name (codes "p") r) (name (codes "u") r) ≡ false
   apart = other_at (name (codes "p") r) (name (codes "u") r) (letters_differ 112 117 r r (λ same. absurd (omega (arith, same))))
 

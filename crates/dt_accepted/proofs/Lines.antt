@@ -1,8 +1,8 @@
 -- Each line of a script means a command.
-use Rattle.std.proofs.Common.{◌≡◌, ℕ, zero, suc, ◌+◌, ◌-◌, ◌≤◌, ◌<◌, min, List, [], ◌∷◌, ◌++◌, codes, refl, sym, subst, ◌∙◌, append_assoc, append-nil, arith}
+use Rattle.std.proofs.Common.{ℕ, zero, suc, ◌+◌, ◌-◌, ◌≤◌, ◌<◌, min, List, [], ◌∷◌, ◌++◌, codes, refl, sym, subst, ◌∙◌, append_assoc, append-nil, arith}
 use Rattle.std.specs.List.{AllByRecursion}
 use Rattle.dt_gen.specs.Draws.{draw}
-use Rattle.dt_gen.specs.Script.{line, round_at, rows_len, packed_len, vector_line, rows_line, type_lines, buffer_lines, session_line, session_lines, turn_lines, turns_at, end_lines, round_text_at, rounds_at, big_at, script_at, script_of}
+use Rattle.dt_gen.specs.Script.{line, round_at, rows_len, packed_len, vector_line, rows_line, type_lines, buffer_lines, session_line, session_lines, turn_lines, turns_at, end_lines, round_text_at, rounds_at, big_at, script_at}
 use Rattle.dt_script.specs.declared.command.Command.{Command}
 use Rattle.dt_script.specs.Lines.{script_lines}
 use Rattle.dt_accepted.specs.Accepted.{MeansCommand, EveryLineIsACommand}

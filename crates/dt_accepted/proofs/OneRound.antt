@@ -1,47 +1,36 @@
 -- A round is accepted.
-use Rattle.std.proofs.Common.{◌≡◌, ℕ, zero, suc, ◌+◌, ◌-◌, ◌*◌, ◌≤◌, ◌<◌, true, false, cond, ◌&&◌, ◌||◌, ℤ, pos, nat_abs, int_le, List, [], ◌∷◌, ◌++◌, length, codes, decimal, Option, Some, None, is_some, refl, sym, ap, subst, ◌∙◌, append_assoc, arith}
-use Rattle.std.proofs.lemmas.List.Sums.{sum_by-cons}
-use Rattle.std.specs.BTreeMap.{insert_entry}
-use Rattle.std.specs.Cmp.Lexicographic.{slice_cmp}
+use Rattle.std.proofs.Common.{◌≡◌, ℕ, suc, ◌≤◌, true, cond, ◌&&◌, pos, List, [], ◌∷◌, ◌++◌, length, codes, decimal, Option, Some, is_some, refl, sym, ap, subst, ◌∙◌, append_assoc, arith}
 use Rattle.std.specs.Map.{remove_entry}
 use Rattle.std.specs.Option.{option_map}
-use Rattle.std.specs.Ordering.{nat_cmp}
 use Rattle.std.specs.Result.{result_ok}
 use Rattle.dt_kinds.specs.declared.kind.Kind.{Kind}
 use Rattle.dt_kinds.specs.declared.kind.Kind.TheVariants.{Byte}
 use Rattle.dt_kinds.specs.declared.kind.Rep.TheVariants.{Native}
 use Rattle.dt_kinds.specs.Kind.{name_of}
-use Rattle.dt_kinds.specs.Name.{kind_of, is_left_out}
+use Rattle.dt_kinds.specs.Name.{kind_of}
 use Rattle.dt_kinds.proofs.Table.{reads_name}
-use Rattle.dt_form.specs.declared.form.FormOf.{FormOf}
 use Rattle.dt_form.specs.declared.form.FormOf.TheVariants as form
-use Rattle.dt_form.specs.Arguments.{is_count, takes_arguments}
+use Rattle.dt_form.specs.Arguments.{is_count}
 use Rattle.dt_gen.specs.Script.{line, name, round_at, row_step, rows_len, packed_len, vector_line, rows_line, type_lines, buffer_lines, session_line, session_lines, turns_at, end_lines, round_text_at}
-use Rattle.dt_map.specs.Elements.{are_inside, Overlaps}
-use Rattle.dt_map.specs.Packed.{total}
+use Rattle.dt_map.specs.Elements.{are_inside}
 use Rattle.dt_names.specs.declared.kept.Kept.{Kept}
-use Rattle.dt_names.specs.Names.{under, basic, type_in, bytes_of, is_unknown_in, is_taken_in}
+use Rattle.dt_names.specs.Names.{under, basic, type_in, bytes_of}
 use Rattle.dt_names.proofs.WordLemmas.{stands_known, stands_supported}
-use Rattle.dt_script.specs.declared.command.Ctor.{Ctor}
 use Rattle.dt_script.specs.declared.command.Ctor.TheVariants.{Vector, Hvector}
 use Rattle.dt_script.specs.declared.command.Fill.TheVariants.{Zero, Count}
 use Rattle.dt_script.specs.Name.{begins_with_mpi}
 use Rattle.dt_sessions.specs.declared.session.Opened.{Opened}
 use Rattle.dt_sessions.specs.Open.{packed_in, total_in, packing, unpacking}
-use Rattle.dt_type.specs.Datatype.{typemap_of, entries_of}
-use Rattle.dt_type.specs.declared.datatype.Seen.{Seen}
-use Rattle.dt_type.specs.Form.{result_of}
-use Rattle.dt_machine.specs.Made.{form_in}
 use Rattle.dt_machine.specs.Pieces.{IsSound}
 use Rattle.dt_machine.specs.Refusal.{elements_of}
-use Rattle.dt_machine.specs.State.{State, type_of, old_of, buffer_of, session_of, packed_open, with_type, with_committed, with_buffer, with_session, without_session, with_cost, with_count}
+use Rattle.dt_machine.specs.State.{State, type_of, with_type, with_committed, with_buffer, with_session, without_session, with_cost, with_count}
 use Rattle.dt_machine.specs.Step.{begun, receiving}
 use Rattle.dt_machine.proofs.Rows.{contrary}
 use Rattle.dt_accepted.proofs.Commands.{vector_means, rows_means, commit_means, counted_means, zeros_means, pack_means, unpack_means, close_means, normalise_means}
-use Rattle.dt_accepted.proofs.Entries.{at, one_more, sum_more, new_stands, others_stand, set_stands, letters_differ}
-use Rattle.dt_accepted.proofs.Known.{TypesBefore, BuffersBefore, types_after, buffers_after, first_free, second_free, count_length, zero_length, opened_two, two, sender, alone, without_sender, without_receiver}
+use Rattle.dt_accepted.proofs.Entries.{at, more, one_more, sum_more, new_stands, others_stand, set_stands, letters_differ}
+use Rattle.dt_accepted.proofs.Known.{TypesBefore, BuffersBefore, types_after, buffers_after, first_free, second_free, count_length, zero_length, opened_two, sender, alone, without_sender, without_receiver}
 use Rattle.dt_accepted.proofs.Performing.{CanDefine, CanOpen, derived, good_define, good_commit, good_buffer, good_pack, good_unpack, good_close, good_normalise, not_below}
-use Rattle.dt_accepted.proofs.Rounds.{Round, IsRound, round_is, vector_in, vector_form, rows_in, rows_form, vector_allowed, rows_allowed, rows_small, packed_small, rows_few, elements_inside, elements_apart, elements_packed}
+use Rattle.dt_accepted.proofs.Rounds.{Round, IsRound, round_is, vector_form, rows_in, rows_form, vector_allowed, rows_allowed, rows_small, packed_small, rows_few, elements_inside, elements_apart, elements_packed}
 use Rattle.dt_accepted.proofs.Rules.{Good}
 use Rattle.dt_accepted.proofs.Turns.{Turning, good_turns}
 
@@ -69,12 +58,6 @@ two_counts : (m n : ℕ) → (is_count (pos m) && is_count (pos n)) ≡ true
 two_counts m n = ap (λ b. b && is_count (pos n)) (counts m) ∙ counts n
 
 module _ (r : ℕ) (few : r ≤ 99) (d : Round) (is : IsRound d) where
-  abbrev vector_name : List ℕ
-  vector_name = name (codes "v") r
-
-  abbrev rows_name : List ℕ
-  rows_name = name (codes "h") r
-
   -- the states behind the lines of its types
   abbrev one : State → State
   one s = with_count (with_type s (name (codes "v") r) (derived (vector_form d)))
@@ -110,7 +93,7 @@ module _ (r : ℕ) (few : r ≤ 99) (d : Round) (is : IsRound d) where
   can_rows s before =
       let many = before.few in
       let ever = before.ever in
-      let more = types_many s before in
+      let made = types_many s before in
       record {
         known = stands_known (one s).types (name (codes "v") r) (derived (vector_form d)) (vector_stands s);
         free = ap is_some (second_free 118 104 r few (λ same. absurd (omega (arith, same))) s.types (derived (vector_form d)) (basic Byte) before.free);
@@ -118,7 +101,7 @@ module _ (r : ℕ) (few : r ≤ 99) (d : Round) (is : IsRound d) where
         says = ap (λ (found : Option Kept). option_map (form.Hvector (pos d.rows) (pos 1) (pos (row_step d))) (option_map (λ (kept : Kept). kept.ty) found)) (vector_stands s);
         takes = two_counts d.rows 1;
         within = rows_allowed d is;
-        few = omega (arith, more);
+        few = omega (arith, made);
         made = omega (arith, ever);
         new = refl;
       }
@@ -161,10 +144,10 @@ module _ (r : ℕ) (few : r ≤ 99) (d : Round) (is : IsRound d) where
   bytes_empty = bytes_of (Zero (pos (rows_len d)))
 
   abbrev counted : State → State
-  counted s = with_count (with_buffer s (name (codes "b") r) (bytes_of (Count (pos (rows_len d)))))
+  counted s = with_count (with_buffer s (name (codes "b") r) bytes_counted)
 
   abbrev filled : State → State
-  filled s = with_count (with_buffer (counted s) (name (codes "z") r) (bytes_of (Zero (pos (rows_len d)))))
+  filled s = with_count (with_buffer (counted s) (name (codes "z") r) bytes_empty)
 
   counted_differs : ¬ (◌≡◌ {A = ℕ} 98 122)
   counted_differs same = omega (arith, same)
@@ -180,14 +163,14 @@ module _ (r : ℕ) (few : r ≤ 99) (d : Round) (is : IsRound d) where
       let held = before.held in
       let long = count_length (rows_len d) in
       let empty = zero_length (rows_len d) in
-      let more = one_more (name (codes "b") r) bytes_counted s.buffers in
+      let one = one_more (name (codes "b") r) bytes_counted s.buffers in
       let sum = sum_more (name (codes "b") r) bytes_counted length s.buffers in
       subst (Good s) (sym (append_assoc a b rest))
       (good_buffer s (codes "buffer") _ (name (codes "b") r) (Count (pos (rows_len d))) (b ++ rest) (counted_means r few (rows_len d) (omega (arith, small))) sound
       (first_free 98 122 r few counted_differs s.buffers bytes_counted bytes_empty before.free) (contrary _ (not_below (rows_len d))) (omega (arith, many))
       (omega (arith, long, small)) (omega (arith, long, small, held)) (λ first.
       good_buffer (counted s) (codes "buffer") _ (name (codes "z") r) (Zero (pos (rows_len d))) rest (zeros_means r few (rows_len d) (omega (arith, small))) first
-      (second_free 98 122 r few counted_differs s.buffers bytes_counted bytes_empty before.free) (contrary _ (not_below (rows_len d))) (omega (arith, many, more))
+      (second_free 98 122 r few counted_differs s.buffers bytes_counted bytes_empty before.free) (contrary _ (not_below (rows_len d))) (omega (arith, many, one))
       (omega (arith, empty, small)) (omega (arith, long, empty, small, held, sum)) next))
 
   -- the states behind the lines of its sessions
@@ -195,10 +178,10 @@ module _ (r : ℕ) (few : r ≤ 99) (d : Round) (is : IsRound d) where
   rows_kept = record { ty = rows_in d; committed = true }
 
   abbrev sending : Opened
-  sending = packing (name (codes "b") r) (begun (record { ty = rows_in d; committed = true }) Native (pos 1) (pos 0) (length (bytes_of (Count (pos (rows_len d))))))
+  sending = packing (name (codes "b") r) (begun rows_kept Native (pos 1) (pos 0) (length bytes_counted))
 
   abbrev getting : Opened
-  getting = unpacking (name (codes "z") r) (receiving (record { ty = rows_in d; committed = true }) Native (pos 1) (pos 0) (length (bytes_of (Zero (pos (rows_len d))))))
+  getting = unpacking (name (codes "z") r) (receiving rows_kept Native (pos 1) (pos 0) (length bytes_empty))
 
   abbrev packed : State → State
   packed s = with_count (with_session s (name (codes "p") r) sending)
@@ -237,7 +220,7 @@ module _ (r : ℕ) (few : r ≤ 99) (d : Round) (is : IsRound d) where
       let p = name (codes "p") r in
       let none : packed_in s.sessions ≡ 0 = ap packed_in closed in
       let no_session : length s.sessions ≡ 0 = ap length closed in
-      let more = one_more p sending s.sessions in
+      let first = one_more p sending s.sessions in
       let sum = sum_more p sending (λ (o : Opened). total_in o.session) s.sessions in
       let all = elements_packed d is in
       let small = packed_small d is in
@@ -248,7 +231,7 @@ module _ (r : ℕ) (few : r ≤ 99) (d : Round) (is : IsRound d) where
             others_stand p sending (name (codes "u") r) (letters_differ 117 112 r r (λ same. absurd (omega (arith, same)))) s.sessions
             ∙ ap (under (name (codes "u") r)) closed;
         committed = refl;
-        few = omega (arith, no_session, more);
+        few = omega (arith, no_session, first);
         inside = ap (λ n. are_inside n (elements_of rows_kept (pos 1) (pos 0))) (zero_length (rows_len d)) ∙ elements_inside d is;
         small = omega (arith, none, all, small, sum);
       }
@@ -279,7 +262,7 @@ module _ (r : ℕ) (few : r ≤ 99) (d : Round) (is : IsRound d) where
         sender = begun rows_kept Native (pos 1) (pos 0) (length bytes_counted);
         receiver = receiving rows_kept Native (pos 1) (pos 0) (length bytes_empty);
         sessions =
-            ap (λ (es : List (List ℕ × Opened)). insert_entry (slice_cmp nat_cmp) (insert_entry (slice_cmp nat_cmp) es (name (codes "p") r) sending) (name (codes "u") r) getting) closed
+            ap (λ (es : List (List ℕ × Opened)). more (more es (name (codes "p") r) sending) (name (codes "u") r) getting) closed
             ∙ opened_two r sending getting;
         so_far = refl;
         all = elements_packed d is;

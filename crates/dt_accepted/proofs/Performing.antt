@@ -1,5 +1,5 @@
 -- Each command of a generated script, where nothing refuses it: what it leaves, and that the text behind it may go on from there.
-use Rattle.std.proofs.Common.{◌≡◌, ℕ, ◌+◌, ◌-◌, ◌^◌, ◌≤◌, ◌<◌, Bool, true, false, ◌||◌, ℤ, pos, nat_abs, List, [], ◌∷◌, ◌++◌, length, Option, Some, None, inl, inr, is_none, is_some, IsTrue, refl, sym, ap, subst, ◌∙◌, arith}
+use Rattle.std.proofs.Common.{◌≡◌, ℕ, ◌+◌, ◌≤◌, ◌<◌, true, false, ◌||◌, pos, List, ◌++◌, length, Option, Some, None, inl, inr, is_none, is_some, refl, sym, ap, subst, ◌∙◌, arith}
 use Rattle.std.specs.Prelude.{int_lt, IsFalse, cond}
 use Rattle.std.specs.Option.{IsSomeAnd}
 use Rattle.dt_kinds.specs.declared.kind.Rep.TheVariants.{Native}
@@ -14,7 +14,6 @@ use Rattle.dt_names.specs.Names.{bytes_of}
 use Rattle.dt_names.proofs.WordLemmas.{stands_known, stands_supported}
 use Rattle.dt_reply.specs.declared.reply.Reply.{Reply}
 use Rattle.dt_reply.specs.Reply.{is_accepted}
-use Rattle.dt_script.specs.declared.command.Command.{Command}
 use Rattle.dt_script.specs.declared.command.Command.TheVariants.{Define, Commit, Buffer, Pack, Take, Close, Unpack, Give, Normalise}
 use Rattle.dt_script.specs.declared.command.Ctor.{Ctor}
 use Rattle.dt_script.specs.declared.command.Fill.{Fill}

@@ -1,5 +1,5 @@
 -- Entries that stand one after another, and no further than some bound, are in range.
-use Rattle.std.proofs.Common.{◌≡◌, ℕ, ◌+◌, ◌-◌, ◌*◌, ◌%◌, ◌≤◌, ◌<◌, Option, None, ℤ, pos, ◌+ℤ◌, ◌-ℤ◌, ◌≤ℤ◌, nat_abs, List, sym, ap, subst, ◌∙◌, arith}
+use Rattle.std.proofs.Common.{◌≡◌, ℕ, ◌+◌, ◌-◌, ◌%◌, ◌≤◌, None, pos, ◌-ℤ◌, nat_abs, List, sym, ap, subst, ◌∙◌, arith}
 use Rattle.std.proofs.lemmas.Int.{ints}
 use Rattle.std.proofs.Math.Nat.{mod-lt, mod_self}
 use Rattle.dt_kinds.specs.declared.kind.Kind.{Kind}
@@ -7,7 +7,7 @@ use Rattle.dt_kinds.specs.Displacement.{FitsDisp}
 use Rattle.dt_kinds.specs.Kind.{native_size}
 use Rattle.dt_kinds.proofs.Table.{native_size-pos, native_size-le}
 use Rattle.dt_map.specs.declared.entry.Entry.{Entry}
-use Rattle.dt_map.specs.Bounds.{alignment, true_lb, true_ub, natural_end, natural_ub, extent_of, size_of}
+use Rattle.dt_map.specs.Bounds.{alignment, true_lb, true_ub, natural_end, natural_ub, extent_of}
 use Rattle.dt_map.specs.Limits.{IsInRange}
 use Rattle.dt_map.specs.Numbers.{padding}
 use Rattle.dt_map.specs.Typemap.{Marked}

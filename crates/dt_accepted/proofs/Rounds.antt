@@ -1,11 +1,9 @@
 -- What the types of a round place.
-use Rattle.std.proofs.Common.{◌≡◌, ℕ, zero, suc, ◌+◌, ◌-◌, ◌*◌, ◌%◌, ◌/◌, ◌^◌, ◌≤◌, ◌<◌, true, ℤ, pos, List, length, refl, sym, ap, subst, ◌∙◌, arith}
-use Rattle.std.proofs.lemmas.Int.{ints}
+use Rattle.std.proofs.Common.{◌≡◌, ℕ, suc, ◌+◌, ◌-◌, ◌*◌, ◌/◌, ◌^◌, ◌≤◌, ◌<◌, true, pos, length, refl, sym, ap, subst, ◌∙◌, arith}
 use Rattle.std.proofs.Math.Nat.{mod-lt, mul-le-mul}
-use Rattle.dt_kinds.specs.declared.kind.Kind.{Kind}
 use Rattle.dt_kinds.specs.declared.kind.Rep.TheVariants.{Native}
 use Rattle.dt_kinds.specs.Kind.{native_size}
-use Rattle.dt_kinds.proofs.Table.{native_size-pos, native_size-le}
+use Rattle.dt_kinds.proofs.Table.{native_size-le}
 use Rattle.dt_form.specs.declared.form.FormOf.{FormOf}
 use Rattle.dt_form.specs.declared.form.FormOf.TheVariants.{Named, Vector, Hvector}
 use Rattle.dt_map.specs.Bounds.{extent_of}
@@ -19,7 +17,7 @@ use Rattle.dt_type.specs.declared.datatype.Seen.{Seen, out-roll-Seen}
 use Rattle.dt_type.specs.Form.{map_by, result_of, depth_by, weight_by}
 use Rattle.dt_gen.specs.Draws.{next_word, draw}
 use Rattle.dt_gen.specs.Script.{round_at, row_len, row_step, rows_len, packed_len}
-use Rattle.dt_accepted.proofs.Ranges.{unmarked, stands_in_range}
+use Rattle.dt_accepted.proofs.Ranges.{stands_in_range}
 use Rattle.dt_accepted.proofs.Stands.{Stands, stands_same, stands_inside, stands_apart, stands_total}
 use Rattle.dt_accepted.proofs.Vectors.{basic_of, vector_of, typemap_is, vector_stands_at, vector_unmarked, vector_length, vector_extent, rows_unmarked, rows_stand_at, rows_length, copy_stands, copy_length}
 

@@ -1,7 +1,5 @@
 -- A text whose lines are obeyed one after another, none of them refused: rules by which it goes on, a line at a time.
-use Rattle.std.proofs.Common.{◌≡◌, ℕ, ◌+◌, ◌-◌, ◌≤◌, ◌<◌, Bool, true, false, ◌&&◌, ℤ, pos, nat_abs, List, [], ◌∷◌, ◌++◌, length, Option, Some, None, inl, inr, is_none, is_some, IsTrue, refl, sym, ap, subst, ◌∙◌, arith}
-use Rattle.std.proofs.lemmas.Int.{ints}
-use Rattle.std.specs.Option.{IsSomeAnd}
+use Rattle.std.proofs.Common.{◌≡◌, ℕ, true, ◌&&◌, List, [], ◌∷◌, ◌++◌, inl, inr, refl, ap, subst, ◌∙◌}
 use Rattle.dt_gen.specs.Script.{line}
 use Rattle.dt_machine.specs.Answers.{Run, are_accepted}
 use Rattle.dt_machine.specs.Pieces.{IsSound}
@@ -12,7 +10,7 @@ use Rattle.dt_machine.proofs.Sound.{sound_is_kept}
 use Rattle.dt_reply.specs.declared.reply.Reply.{Reply}
 use Rattle.dt_reply.specs.Reply.{is_accepted}
 use Rattle.dt_script.specs.declared.command.Command.{Command}
-use Rattle.dt_script.specs.Line.{Meaning, Does, IsLine}
+use Rattle.dt_script.specs.Line.{Does, IsLine}
 use Rattle.dt_script.specs.Lines.{script_lines}
 use Rattle.dt_script.proofs.LineLemmas.{one_meaning}
 use Rattle.dt_accepted.proofs.Commands.{Means}

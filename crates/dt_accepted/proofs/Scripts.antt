@@ -1,11 +1,11 @@
 -- A whole script is accepted.
-use Rattle.std.proofs.Common.{◌≡◌, ℕ, zero, suc, ◌+◌, ◌*◌, ◌≤◌, ◌<◌, true, false, cond, ℤ, pos, List, [], ◌∷◌, ◌++◌, map, length, codes, decimal, Option, Some, None, is_some, refl, sym, ap, subst, ◌∙◌, append_assoc, append-nil, arith}
+use Rattle.std.proofs.Common.{◌≡◌, ℕ, zero, suc, ◌+◌, ◌≤◌, pos, List, [], ◌∷◌, ◌++◌, map, codes, Option, Some, is_some, refl, sym, ap, subst, ◌∙◌, append_assoc, append-nil, arith}
 use Rattle.std.specs.Option.{option_map}
 use Rattle.dt_kinds.specs.declared.kind.Kind.TheVariants.{Short}
 use Rattle.dt_form.specs.declared.form.FormOf.TheVariants as form
 use Rattle.dt_gen.specs.Script.{line, round_text_at, rounds_at, big_at, script_at, script_of}
 use Rattle.dt_names.specs.declared.kept.Kept.{Kept}
-use Rattle.dt_names.specs.Names.{basic, type_in}
+use Rattle.dt_names.specs.Names.{basic}
 use Rattle.dt_names.proofs.WordLemmas.{stands_known, stands_supported}
 use Rattle.dt_script.specs.declared.command.Ctor.TheVariants.{IndexedBlock}
 use Rattle.dt_machine.specs.Pieces.{IsSound}
@@ -35,9 +35,6 @@ good_rounds (suc n) r word s rest most sound before next =
 
 -- the large type
 module _ (s : State) (before : Before 100 s) (word : ℕ) where
-  places : List ℕ
-  places = drawn 1024 0 word
-
   short_stands : type_of s (codes "MPI_SHORT") ≡ Some (basic Short)
   short_stands = kind_stands s.types Short
 

@@ -1,9 +1,8 @@
 -- What numbers, names, kinds and bytes are spelled with, and that they are read back.
-use Rattle.std.proofs.Common.{◌≡◌, ℕ, zero, suc, ◌+◌, ◌-◌, ◌*◌, ◌/◌, ◌%◌, ◌≤◌, ◌<◌, Bool, true, false, not, cond, ◌&&◌, ◌==◌, nat_le, ℤ, pos, negsuc, neg_ℤ, int_le, Option, Some, None, Result, Ok, List, [], ◌∷◌, ◌++◌, length, get_or, codes, decimal, bytes_eq, refl, sym, ap, subst, ◌∙◌, arith}
-use Rattle.std.proofs.lemmas.Bool.{and_parts}
+use Rattle.std.proofs.Common.{◌≡◌, ℕ, zero, suc, ◌+◌, ◌-◌, ◌*◌, ◌/◌, ◌%◌, ◌≤◌, ◌<◌, Bool, true, false, not, cond, ◌&&◌, ◌==◌, nat_le, ℤ, pos, negsuc, neg_ℤ, int_le, Option, Some, None, List, [], ◌∷◌, length, get_or, codes, decimal, bytes_eq, refl, ap, ◌∙◌, arith}
+use Rattle.std.proofs.lemmas.Bool.{and_parts, and_from}
 use Rattle.std.proofs.lemmas.Fmt.{digits_decimal, digits_value-decimal, decimal_nonempty, length-decimal-le}
 use Rattle.std.proofs.lemmas.Int.{ints}
-use Rattle.std.proofs.lemmas.List.{length-append}
 use Rattle.std.proofs.lemmas.Str.Parse.{IsDigitsTest, IsNumeralModel, numerals_by_fold}
 use Rattle.std.proofs.Math.Nat.{mod-lt}
 use Rattle.std.specs.List.{list_all, fold}
@@ -17,9 +16,9 @@ use Rattle.dt_kinds.specs.Kind as kinds
 use Rattle.dt_gen.specs.Script.{name, piece}
 use Rattle.dt_script.specs.Hex.{hex_of}
 use Rattle.dt_script.specs.Name.{is_letter, is_digit, is_name_byte, is_name}
-use Rattle.dt_script.specs.Number.{number_of, natural_of, integer_of, bounded, integer_within, int_of, address_of}
+use Rattle.dt_script.specs.Number.{number_of, natural_of, integer_of, bounded, int_of, address_of}
 use Rattle.dt_script.specs.Words.{is_empty}
-use Rattle.dt_accepted.proofs.Words.{is_printable, is_word, all_append}
+use Rattle.dt_accepted.proofs.Words.{is_printable, is_word, all_more}
 
 -- digits
 abbrev AreDigits : List ℕ → Type 0
@@ -41,19 +40,10 @@ are_digits n fits = digits_decimal numerals n fits
 value_is : (n : ℕ) → n < 18446744073709551616 → number_of (decimal n) ≡ n
 value_is n fits = digits_value-decimal numerals n fits
 
--- all of some bytes, and one or more of them
-all_more : (p q : ℕ → Bool) → ((b : ℕ) → p b ≡ true → q b ≡ true) → (xs : List ℕ) → list_all p xs ≡ true → list_all q xs ≡ true
-all_more p q to [] h = refl
-all_more p q to (x ∷ xs) h =
-    let parts = and_parts (p x) (list_all p xs) h in
-    ap (λ b. b && list_all q xs) (to x parts.0) ∙ all_more p q to xs parts.1
-
+-- one or more bytes
 not_empty : (xs : List ℕ) → 0 < length xs → not (is_empty xs) ≡ true
 not_empty [] h = absurd (omega arith)
 not_empty (x ∷ xs) h = refl
-
-both : (a b : Bool) → a ≡ true → b ≡ true → (a && b) ≡ true
-both a b p q = ap (λ x. x && b) p ∙ q
 
 digit_printable : (b : ℕ) → is_digit b ≡ true → is_printable b ≡ true
 digit_printable b h = grind arith
@@ -69,7 +59,7 @@ letter_named b h = grind arith
 
 pub number_word : (n : ℕ) → n < 18446744073709551616 → is_word (decimal n) ≡ true
 number_word n fits =
-    both (not (is_empty (decimal n))) (list_all is_printable (decimal n)) (not_empty (decimal n) (decimal_nonempty n fits))
+    and_from (not (is_empty (decimal n))) (list_all is_printable (decimal n)) (not_empty (decimal n) (decimal_nonempty n fits))
     (all_more is_digit is_printable digit_printable (decimal n) (are_digits n fits))
 
 -- a number is read back
@@ -90,7 +80,7 @@ within : (low high n : ℕ) → n ≤ high → bounded (negsuc low) (pos high) (
 within low high n le =
     let a : int_le (negsuc low) (pos n) ≡ true = grind (arith, ints) in
     let b : int_le (pos n) (pos high) ≡ true = grind (arith, ints) in
-    ap (λ v. cond v (let o : Option ℤ = Some (pos n) in o) None) (both (int_le (negsuc low) (pos n)) (int_le (pos n) (pos high)) a b)
+    ap (λ v. cond v (let o : Option ℤ = Some (pos n) in o) None) (and_from (int_le (negsuc low) (pos n)) (int_le (pos n) (pos high)) a b)
 
 pub int_read : (n : ℕ) → n ≤ 2147483647 → int_of (decimal n) ≡ Some (pos n)
 unfolding int_of
@@ -110,15 +100,15 @@ name_is letter n h few =
     let digits = all_more is_digit is_name_byte digit_named (decimal n) (are_digits n fits) in
     let short : length (decimal n) ≤ 2 = length-decimal-le 2 n (omega arith) (omega arith) fits in
     let size : nat_le (length (letter ∷ decimal n)) 32 ≡ true = grind arith in
-    both (is_letter letter && list_all is_name_byte (letter ∷ decimal n)) (nat_le (length (letter ∷ decimal n)) 32)
-    (both (is_letter letter) (list_all is_name_byte (letter ∷ decimal n)) h (both (is_name_byte letter) (list_all is_name_byte (decimal n)) (letter_named letter h) digits))
+    and_from (is_letter letter && list_all is_name_byte (letter ∷ decimal n)) (nat_le (length (letter ∷ decimal n)) 32)
+    (and_from (is_letter letter) (list_all is_name_byte (letter ∷ decimal n)) h (and_from (is_name_byte letter) (list_all is_name_byte (decimal n)) (letter_named letter h) digits))
     size
 
 pub name_word : (letter n : ℕ) → is_letter letter ≡ true → n ≤ 99 → is_word (name (letter ∷ []) n) ≡ true
 name_word letter n h few =
     let fits : n < 18446744073709551616 = omega arith in
     let digits = all_more is_digit is_printable digit_printable (decimal n) (are_digits n fits) in
-    both (is_printable letter) (list_all is_printable (decimal n)) (letter_printable letter h) digits
+    and_from (is_printable letter) (list_all is_printable (decimal n)) (letter_printable letter h) digits
 
 -- a kind
 pub kind_word : (kind : Kind) → is_word (kinds.name_of kind) ≡ true
@@ -148,9 +138,9 @@ hex_printable (b ∷ bytes) h =
     let byte : b < 256 = h 0 in
     let high : b / 16 < 16 = omega arith in
     let low : b % 16 < 16 = omega arith in
-    both (is_printable (get_or lower_digits (b / 16) 0)) (is_printable (get_or lower_digits (b % 16) 0) && list_all is_printable (encode_lower bytes))
+    and_from (is_printable (get_or lower_digits (b / 16) 0)) (is_printable (get_or lower_digits (b % 16) 0) && list_all is_printable (encode_lower bytes))
     (digit_of_hex (b / 16) high)
-    (both (is_printable (get_or lower_digits (b % 16) 0)) (list_all is_printable (encode_lower bytes)) (digit_of_hex (b % 16) low)
+    (and_from (is_printable (get_or lower_digits (b % 16) 0)) (list_all is_printable (encode_lower bytes)) (digit_of_hex (b % 16) low)
     (hex_printable bytes (λ i. h (suc i))))
 
 hex_full : (bytes : List ℕ) → 0 < length bytes → not (is_empty (encode_lower bytes)) ≡ true
@@ -160,7 +150,7 @@ hex_full (b ∷ bytes) lt = refl
 
 pub hex_word : (bytes : List ℕ) → IsBytes bytes → 0 < length bytes → is_word (encode_lower bytes) ≡ true
 hex_word bytes h some =
-    both (not (is_empty (encode_lower bytes))) (list_all is_printable (encode_lower bytes)) (hex_full bytes some) (hex_printable bytes h)
+    and_from (not (is_empty (encode_lower bytes))) (list_all is_printable (encode_lower bytes)) (hex_full bytes some) (hex_printable bytes h)
 
 no_dash_word : (x : ℕ) (xs : List ℕ) → not (x == 45) ≡ true → bytes_eq (x ∷ xs) (codes "-") ≡ false
 no_dash_word x xs h = let e : (x == 45) ≡ false = grind arith in ap (λ v. v && bytes_eq xs []) e

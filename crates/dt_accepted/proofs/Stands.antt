@@ -1,11 +1,12 @@
 -- Entries of one kind that stand one after another, none before byte 0.
-use Rattle.std.proofs.Common.{◌≡◌, ℕ, zero, suc, ◌+◌, ◌*◌, ◌≤◌, ◌<◌, Bool, true, ◌&&◌, Option, unwrap_or, ℤ, pos, ◌+ℤ◌, ◌*ℤ◌, ◌≤ℤ◌, ◌<ℤ◌, int_le, List, [], ◌∷◌, ◌++◌, map, length, get_or, Some, None, refl, sym, ap, subst, ◌∙◌, arith, append-nil}
+use Rattle.std.proofs.Common.{◌≡◌, ℕ, zero, suc, ◌+◌, ◌*◌, ◌≤◌, ◌<◌, true, Option, unwrap_or, ℤ, pos, ◌≤ℤ◌, ◌<ℤ◌, List, [], ◌∷◌, ◌++◌, map, length, get_or, Some, None, refl, sym, ap, subst, ◌∙◌, arith, append-nil}
+use Rattle.std.proofs.lemmas.Bool.{and_from}
 use Rattle.std.proofs.lemmas.Grind.{flat_map-append}
 use Rattle.std.proofs.lemmas.Int.{ints, clamps}
 use Rattle.std.proofs.lemmas.List.{length-append}
 use Rattle.std.proofs.lemmas.List.Sums.{sum_by-cons}
 use Rattle.std.specs.Int.{int_min, int_max}
-use Rattle.std.specs.List.{flat_map, list_all}
+use Rattle.std.specs.List.{flat_map}
 use Rattle.dt_kinds.specs.declared.kind.Kind.{Kind}
 use Rattle.dt_kinds.specs.declared.kind.Rep.TheVariants.{Native}
 use Rattle.dt_kinds.specs.Kind.{native_size}
@@ -102,9 +103,6 @@ stands_ordered kind a b [] h = absurd h
 stands_ordered kind a b (e ∷ es) h = behind_ordered kind (a + native_size kind) b es h.1
 
 -- they lie inside a buffer that reaches as far
-both_true : (a b : Bool) → a ≡ true → b ≡ true → (a && b) ≡ true
-both_true a b p q = ap (λ x. x && b) p ∙ q
-
 lies_at : (kind : Kind) (low len : ℕ) → low + native_size kind ≤ len → lies_inside len (entry_at kind low) ≡ true
 lies_at kind low len le =
     let size = native_size kind in
@@ -114,7 +112,7 @@ behind_inside : (kind : Kind) (a b len : ℕ) (es : List Entry) → Behind kind 
 behind_inside kind a b len [] h le = refl
 behind_inside kind a b len (e ∷ es) h le =
     let end = behind_ordered kind (h.0 + native_size kind) b es h.3 in
-    both_true (lies_inside len e) (are_inside len es) (ap (lies_inside len) h.2 ∙ lies_at kind h.0 len (omega arith))
+    and_from (lies_inside len e) (are_inside len es) (ap (lies_inside len) h.2 ∙ lies_at kind h.0 len (omega arith))
     (behind_inside kind (h.0 + native_size kind) b len es h.3 le)
 
 stands_behind : (kind : Kind) (a b : ℕ) (es : List Entry) → Stands kind a es b → Behind kind a es b

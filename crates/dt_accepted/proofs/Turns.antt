@@ -1,13 +1,12 @@
 -- The turns of a round are accepted.
-use Rattle.std.proofs.Common.{◌≡◌, ℕ, zero, suc, ◌+◌, ◌-◌, ◌*◌, ◌≤◌, ◌<◌, min, true, false, ℤ, pos, List, [], ◌∷◌, ◌++◌, length, codes, decimal, Option, Some, None, refl, sym, ap, subst, ◌∙◌, append_assoc, arith}
+use Rattle.std.proofs.Common.{◌≡◌, ℕ, zero, suc, ◌+◌, ◌-◌, ◌≤◌, ◌<◌, min, true, pos, List, [], ◌∷◌, ◌++◌, length, codes, decimal, Some, refl, sym, ap, subst, ◌∙◌, append_assoc, arith}
 use Rattle.std.specs.Map.{set_value}
 use Rattle.hex.specs.Hex.{encode_lower}
 use Rattle.dt_gen.specs.Draws.{draw}
-use Rattle.dt_gen.specs.Script.{line, name, piece, turn_lines, turns_at, packed_len}
-use Rattle.dt_names.specs.declared.kept.Kept.{Kept}
+use Rattle.dt_gen.specs.Script.{line, name, piece, turn_lines, turns_at}
 use Rattle.dt_pack.specs.Session as pack
 use Rattle.dt_sessions.specs.declared.session.Opened.{Opened}
-use Rattle.dt_sessions.specs.Open.{packing, unpacking, opened_at, passed_in, buffer_in, opened_given}
+use Rattle.dt_sessions.specs.Open.{packing, unpacking, opened_at, passed_in, opened_given}
 use Rattle.dt_sessions.proofs.OpenLemmas.{each_found, length_found}
 use Rattle.dt_type.specs.declared.datatype.Seen.{Seen}
 use Rattle.dt_unpack.specs.Session as unpack
@@ -20,7 +19,7 @@ use Rattle.dt_accepted.proofs.Commands.{take_means, give_means}
 use Rattle.dt_accepted.proofs.Entries.{at}
 use Rattle.dt_accepted.proofs.Known.{TypesBefore, BuffersBefore, buffers_written, two, sender, receiver, set_sender, set_receiver}
 use Rattle.dt_accepted.proofs.Performing.{good_take, good_give, taken_from}
-use Rattle.dt_accepted.proofs.Rounds.{Round, drawn_below}
+use Rattle.dt_accepted.proofs.Rounds.{drawn_below}
 use Rattle.dt_accepted.proofs.Rules.{Good}
 use Rattle.dt_accepted.proofs.Spelled.{piece_length}
 

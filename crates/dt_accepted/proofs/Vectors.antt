@@ -1,5 +1,5 @@
 -- What vectors of a kind, rows of them, and single entries place.
-use Rattle.std.proofs.Common.{◌≡◌, ℕ, zero, suc, ◌+◌, ◌*◌, ◌%◌, ◌≤◌, ◌<◌, Option, None, ℤ, pos, negsuc, nat_abs, ◌+ℤ◌, ◌*ℤ◌, List, [], ◌∷◌, ◌++◌, map, length, refl, sym, ap, subst, ◌∙◌, arith, append-nil}
+use Rattle.std.proofs.Common.{◌≡◌, ℕ, suc, ◌+◌, ◌*◌, ◌%◌, ◌≤◌, None, ℤ, pos, negsuc, nat_abs, ◌+ℤ◌, ◌*ℤ◌, List, [], ◌∷◌, ◌++◌, map, length, refl, sym, ap, subst, ◌∙◌, arith, append-nil}
 use Rattle.std.proofs.lemmas.Int.{ints}
 use Rattle.std.proofs.lemmas.Grind.{flat_map-append}
 use Rattle.std.proofs.lemmas.List.{length-map}
@@ -10,7 +10,7 @@ use Rattle.dt_kinds.specs.declared.kind.Kind.{Kind}
 use Rattle.dt_kinds.specs.declared.kind.Kind.TheVariants.{Byte}
 use Rattle.dt_kinds.specs.Kind.{native_size}
 use Rattle.dt_form.specs.declared.form.FormOf.{FormOf}
-use Rattle.dt_form.specs.declared.form.FormOf.TheVariants.{Named, Vector, Hvector, IndexedBlock}
+use Rattle.dt_form.specs.declared.form.FormOf.TheVariants.{Named, Vector, Hvector}
 use Rattle.dt_map.specs.declared.entry.Entry.{Entry}
 use Rattle.dt_map.specs.Bounds.{extent_of}
 use Rattle.dt_map.specs.Constructors.{copies_at}
@@ -18,11 +18,11 @@ use Rattle.dt_map.specs.Elements.{elements}
 use Rattle.dt_map.specs.Placing.{placed_marks}
 use Rattle.dt_map.specs.Typemap.{Marked, shift, shift_entry}
 use Rattle.dt_offsets.specs.Offsets.{below, row_offsets}
-use Rattle.dt_type.specs.Constructors.{extents_offsets, vector_offsets, hvector_offsets, indexed_block_offsets}
+use Rattle.dt_type.specs.Constructors.{extents_offsets, vector_offsets, hvector_offsets}
 use Rattle.dt_type.specs.Datatype.{Layer, typemap_of, entries_of}
 use Rattle.dt_type.specs.declared.datatype.Seen.{Seen, out-roll-Seen}
 use Rattle.dt_type.specs.Form.{map_by, result_of}
-use Rattle.dt_accepted.proofs.Stands.{entry_at, Stands, stands_same, stands_one, stands_more, stands_further, stands_each, count_each}
+use Rattle.dt_accepted.proofs.Stands.{entry_at, Stands, stands_same, stands_one, stands_further, stands_each, count_each}
 use Rattle.dt_accepted.proofs.Ranges.{unmarked, stands_extent}
 
 -- groups of groups

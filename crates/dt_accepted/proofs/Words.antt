@@ -1,5 +1,5 @@
 -- A line of words is read as its words.
-use Rattle.std.proofs.Common.{◌≡◌, ℕ, zero, suc, ◌-◌, ◌≤◌, ◌<◌, Bool, true, false, not, cond, ◌&&◌, ◌||◌, ◌==◌, nat_le, List, [], ◌∷◌, ◌++◌, map, length, take, drop, codes, IsTrue, refl, sym, ap, subst, ◌∙◌, append_assoc, append-nil, arith}
+use Rattle.std.proofs.Common.{◌≡◌, ℕ, zero, suc, ◌-◌, Bool, true, false, not, cond, ◌&&◌, ◌==◌, nat_le, List, [], ◌∷◌, ◌++◌, map, length, take, drop, codes, IsTrue, refl, sym, ap, subst, ◌∙◌, append_assoc, arith}
 use Rattle.std.proofs.lemmas.Bool.{and_parts}
 use Rattle.std.specs.List.{AllByRecursion, list_all, flat_map, filter, ends_with}
 use Rattle.std.specs.Prelude.{nat_eq}
@@ -35,7 +35,7 @@ no_return : (b : ℕ) → is_text_byte b ≡ true → nat_eq 13 b ≡ false
 no_return b h = grind arith
 
 -- all of some bytes
-all_more : (p q : ℕ → Bool) → ((b : ℕ) → p b ≡ true → q b ≡ true) → (xs : List ℕ) → list_all p xs ≡ true → list_all q xs ≡ true
+pub all_more : (p q : ℕ → Bool) → ((b : ℕ) → p b ≡ true → q b ≡ true) → (xs : List ℕ) → list_all p xs ≡ true → list_all q xs ≡ true
 all_more p q to [] h = refl
 all_more p q to (x ∷ xs) h =
     let parts = and_parts (p x) (list_all p xs) h in
@@ -132,8 +132,7 @@ words_are first words h = ap (filter (λ piece. not (is_empty piece))) (pieces_a
 pub line_means : (first : List ℕ) (words : List (List ℕ)) (command : Command) → AreWords (first ∷ words) → begins_with_hash first ≡ false
     → IsCommand (first ∷ words) command → IsLine (joined first words) (Does command)
 line_means first words command h plain is =
-    let same = sym (words_are first words h) in
-    (
+    let same = sym (words_are first words h) in (
       subst (λ ws. is_passed_over ws ≡ false) same plain,
       joined_text first words h,
       subst (λ ws. IsCommand ws command) same is,
