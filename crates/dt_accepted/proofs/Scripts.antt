@@ -11,7 +11,7 @@ use Rattle.dt_script.specs.declared.command.Ctor.TheVariants.{IndexedBlock}
 use Rattle.dt_machine.specs.Pieces.{IsSound}
 use Rattle.dt_machine.specs.State.{State, first_state, type_of, with_type, with_count}
 use Rattle.dt_machine.proofs.Sound.{sound_is_kept}
-use Rattle.dt_accepted.specs.Accepted.{EveryCommandIsAccepted, EveryAnswerIsAccepted}
+use Rattle.dt_accepted.specs.Accepted.{EveryCommandIsAllowed, EveryCommandIsAccepted, EveryAnswerIsAccepted}
 use Rattle.dt_accepted.proofs.Drawn.{drawn, large_means, large_normalise_means, large_form, large_many, large_allowed, large_text}
 use Rattle.dt_accepted.proofs.Entries.{new_stands}
 use Rattle.dt_accepted.proofs.OneRound.{Before, kind_stands, counts, good_round}
@@ -79,8 +79,11 @@ good_script n =
     good_rounds 100 0 n first_state (big_at (rounds_at 100 0 n).1).0 (omega arith) sound_is_kept.0 nothing_before (λ t sound before.
     good_large t (rounds_at 100 0 n).1 sound before)
 
+pub every_command_is_allowed : EveryCommandIsAllowed
+every_command_is_allowed n front rest l replies s same run = (good_script n).1 front rest l replies s same run
+
 pub every_command_is_accepted : EveryCommandIsAccepted
-every_command_is_accepted n replies last run = good_script n last replies run
+every_command_is_accepted n replies last run = (good_script n).0 last replies run
 
 pub every_answer_is_accepted : EveryAnswerIsAccepted
 every_answer_is_accepted n text accepted a = a.told ∙ every_command_is_accepted n a.replies a.last a.run
