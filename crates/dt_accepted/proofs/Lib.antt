@@ -1,0 +1,16 @@
+pub mod Commands
+pub mod Drawn
+pub mod Entries
+pub mod Known
+pub mod Lines
+pub mod OneRound
+pub mod Performing
+pub mod Ranges
+pub mod Rounds
+pub mod Rules
+pub mod Scripts
+pub mod Spelled
+pub mod Stands
+pub mod Turns
+pub mod Vectors
+pub mod Words

@@ -1,0 +1,5 @@
+use Rattle.dt_accepted.proofs.Scripts.{every_command_is_allowed}
+use Rattle.dt_accepted.proofs.laws.every_command_is_allowed.Goals as goal
+
+pub returns : goal.returns
+returns c = every_command_is_allowed
