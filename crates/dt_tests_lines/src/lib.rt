@@ -5,6 +5,8 @@
 #[cfg(test)]
 mod lines;
 #[cfg(test)]
+mod moves;
+#[cfg(test)]
 mod replies;
 #[cfg(test)]
 mod sinks;
