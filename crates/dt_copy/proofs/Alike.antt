@@ -1,18 +1,17 @@
 -- Where kinds differ first: of bytes, and of the elements that have them.
-use Rattle.std.proofs.Common.{◌≡◌, ℕ, zero, suc, ◌+◌, ◌-◌, ◌*◌, ◌≤◌, ◌<◌, Bool, cond, List, [], ◌∷◌, ◌++◌, map, take, drop, length, replicate, inl, inr, refl, sym, ap, subst, ◌∙◌, arith, length-append, length-drop}
+use Rattle.std.proofs.Common.{◌≡◌, ℕ, zero, suc, ◌+◌, ◌-◌, ◌≤◌, ◌<◌, Bool, cond, List, [], ◌∷◌, ◌++◌, take, drop, length, replicate, inl, inr, refl, sym, ap, subst, ◌∙◌, arith, length-append}
 use Rattle.std.specs.Prelude.{slice_get, Option, Some, None}
 use Rattle.std.proofs.lemmas.Bool.Decides.{leb_tells}
-use Rattle.std.proofs.lemmas.List.{length-take-le, length-replicate, drop-replicate, take-replicate, replicate-append-replicate, take_all, take_at, drop_at, take-take, length-map}
+use Rattle.std.proofs.lemmas.List.{length-replicate, take-replicate, replicate-append-replicate, take_all, take_at, drop_at, take-take}
 use Rattle.std.proofs.lemmas.Option.{slice_get_past}
-use Rattle.std.proofs.Math.Seq.{drop-append-add, take-append-add}
+use Rattle.std.proofs.Math.Seq.{take-append-add}
 use Rattle.dt_kinds.specs.declared.kind.Kind.{Kind}
 use Rattle.dt_kinds.specs.declared.kind.Rep.TheVariants.{Native}
-use Rattle.dt_kinds.specs.Kind.{native_size, packed_size}
+use Rattle.dt_kinds.specs.Kind.{native_size}
 use Rattle.dt_kinds.proofs.Table.{native_size-pos}
 use Rattle.dt_map.specs.declared.entry.Entry.{Entry}
 use Rattle.dt_map.specs.Setting.{done}
 use Rattle.dt_rows.proofs.SettingRows.{two_pieces}
-use Rattle.dt_copy.specs.declared.side.Stretch.{Stretch}
 use Rattle.dt_copy.specs.Copied.{signature}
 use Rattle.dt_copy.specs.Matching.{Begins, DifferAt}
 use Rattle.dt_copy.specs.Side.{kinds_of}

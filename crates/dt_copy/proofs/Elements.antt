@@ -1,29 +1,25 @@
 -- Elements copied byte for byte.
-use Rattle.std.proofs.Common.{◌≡◌, ℕ, zero, suc, ◌+◌, ◌-◌, ◌*◌, ◌≤◌, ◌<◌, true, ℤ, pos, ◌+ℤ◌, ◌*ℤ◌, ◌≤ℤ◌, List, [], ◌∷◌, ◌++◌, map, take, drop, length, get_or, replicate, refl, sym, ap, subst, ◌∙◌, arith, append-nil, length-append, length-drop}
-use Rattle.std.specs.Prelude.{nat_abs, ◌&&◌}
+use Rattle.std.proofs.Common.{◌≡◌, ℕ, ◌+◌, ◌-◌, ◌≤◌, true, pos, List, [], ◌∷◌, ◌++◌, take, drop, length, get_or, replicate, refl, sym, ap, ◌∙◌, arith, length-append, length-drop}
+use Rattle.std.specs.Prelude.{nat_abs}
 use Rattle.std.specs.List.{flat_map}
 use Rattle.std.proofs.lemmas.Bool.{and_parts}
-use Rattle.std.proofs.lemmas.Grind.{flat_map-append}
 use Rattle.std.proofs.lemmas.Int.{ints}
-use Rattle.std.proofs.lemmas.List.{length-take-le, length-replicate, map-append, take_at, drop_at, take_all}
+use Rattle.std.proofs.lemmas.List.{length-take-le, length-replicate, take_at, drop_at}
 use Rattle.std.proofs.lemmas.List.Sums.{sum_by-cons}
-use Rattle.dt_kinds.specs.declared.kind.Kind.{Kind}
 use Rattle.dt_kinds.specs.declared.kind.Kind.TheVariants.{Byte}
 use Rattle.dt_kinds.specs.declared.kind.Rep.TheVariants.{Native}
 use Rattle.dt_kinds.specs.Kind.{native_size, packed_size}
 use Rattle.dt_map.specs.declared.entry.Entry.{Entry}
 use Rattle.dt_map.specs.Elements.{are_inside, lies_inside}
 use Rattle.dt_map.specs.Packed.{bytes_at, packed, total}
-use Rattle.dt_map.specs.Setting.{written, set, set_each}
-use Rattle.dt_map.specs.Typemap.{shift, shift_entry}
-use Rattle.dt_rows.specs.Rows.{element_at, adjacent}
+use Rattle.dt_map.specs.Setting.{written, set_each}
+use Rattle.dt_rows.specs.Rows.{adjacent}
 use Rattle.dt_rows.proofs.InsideRows.{bounds_of_inside}
 use Rattle.dt_rows.proofs.SettingRows.{drop_none}
 use Rattle.dt_copy.specs.Copied.{copied, signature}
 use Rattle.dt_copy.specs.Laws.{CopiedIsSet}
-use Rattle.dt_copy.specs.Plan.{Copy, CanCopy}
 use Rattle.dt_copy.specs.Side.{bytes_of, kinds_of}
-use Rattle.dt_copy.proofs.Bytes.{copied_append, copied_front, length-written, length-adjacent, adjacent_more, adjacent_parts, bytes_from, span_copied}
+use Rattle.dt_copy.proofs.Bytes.{copied_append, copied_front, length-written, length-adjacent, bytes_from, span_copied}
 
 -- how many bytes elements have
 module _ {A : Type 0} (g : Entry → List A) (sized : (e : Entry) → length (g e) ≡ native_size e.kind) where

@@ -1,36 +1,34 @@
 -- What comes next of the bytes of elements, by the rows that a walk names.
-use Rattle.std.proofs.Common.{◌≡◌, ℕ, zero, suc, ◌+◌, ◌-◌, ◌*◌, ◌≤◌, ◌<◌, true, ℤ, pos, ◌+ℤ◌, ◌*ℤ◌, List, [], ◌∷◌, ◌++◌, map, take, drop, length, replicate, refl, sym, ap, subst, ◌∙◌, arith, append-nil, length-append, length-drop}
+use Rattle.std.proofs.Common.{◌≡◌, ℕ, zero, suc, ◌+◌, ◌-◌, ◌*◌, ◌≤◌, true, ℤ, pos, ◌+ℤ◌, ◌*ℤ◌, List, [], ◌∷◌, ◌++◌, map, take, drop, length, replicate, refl, sym, ap, subst, ◌∙◌, arith, append-nil, length-drop}
 use Rattle.std.specs.Prelude.{nat_abs}
 use Rattle.std.specs.List.{flat_map}
 use Rattle.std.proofs.lemmas.Bool.{and_parts}
 use Rattle.std.proofs.lemmas.Grind.{flat_map-append}
 use Rattle.std.proofs.lemmas.Int.{ints}
-use Rattle.std.proofs.lemmas.List.{take-append-le, drop-append-le, drop-replicate, length-replicate, take-replicate, replicate-append-replicate, map-append}
+use Rattle.std.proofs.lemmas.List.{take-append-le, drop-append-le, drop-replicate, length-replicate, take-replicate, replicate-append-replicate}
 use Rattle.std.proofs.lemmas.List.Folds.{list_all-append}
 use Rattle.std.proofs.Math.Seq.{drop-append-add}
 use Rattle.dt_cursor.specs.Walk.{Walk, AreNext, IsNext, one_row}
 use Rattle.dt_kinds.specs.declared.kind.Kind.{Kind}
 use Rattle.dt_kinds.specs.declared.kind.Kind.TheVariants.{Byte}
-use Rattle.dt_kinds.specs.declared.kind.Rep.{Rep}
 use Rattle.dt_kinds.specs.declared.kind.Rep.TheVariants.{Native}
 use Rattle.dt_kinds.specs.Kind.{native_size, packed_size}
 use Rattle.dt_map.specs.declared.entry.Entry.{Entry}
 use Rattle.dt_map.specs.Elements.{are_inside, lies_inside}
 use Rattle.dt_map.specs.Packed.{total}
-use Rattle.dt_map.specs.Typemap.{shift, shift_entry}
+use Rattle.dt_map.specs.Typemap.{shift}
 use Rattle.dt_map.proofs.Copies.{total-append, total-shift}
 use Rattle.dt_map.proofs.Placings.{shift-append}
-use Rattle.dt_offsets.specs.Offsets.{below, row_offsets}
+use Rattle.dt_offsets.specs.Offsets.{row_offsets}
 use Rattle.dt_rows.specs.declared.rows.Rows.{Rows}
 use Rattle.dt_rows.specs.declared.rows.Run.{Run}
 use Rattle.dt_rows.specs.Pieces.{IsPiece}
 use Rattle.dt_rows.specs.Rows.{element_at, adjacent, elements_of_rows, bytes_in}
 use Rattle.dt_rows.proofs.InsideRows.{row_inside}
 use Rattle.dt_rows.proofs.Packing.{some_elements}
-use Rattle.dt_rows.proofs.Totals.{bytes_within, some_bytes, total_of_rows}
+use Rattle.dt_rows.proofs.Totals.{bytes_within, some_bytes}
 use Rattle.dt_copy.specs.declared.side.Stretch.{Stretch}
 use Rattle.dt_copy.specs.declared.span.Span.{Span}
-use Rattle.dt_copy.specs.Side as side
 use Rattle.dt_copy.specs.Side.{Reader, IsNextSpan, IsNextStretch, bytes_of, kinds_of}
 use Rattle.dt_copy.proofs.Bytes.{adjacent_more, adjacent_parts, adjacent_cut, bytes_from}
 use Rattle.dt_copy.proofs.Elements.{length-all, length-bytes_of, length-kinds_of, bytes_sized, kinds_sized}

@@ -1,11 +1,11 @@
 -- What holds of the operations of a copy as it is planned.
-use Rattle.std.proofs.Common.{◌≡◌, ℕ, ◌+◌, ◌*◌, ◌^◌, ◌≤◌, ◌<◌, true, ℤ, pos, List, [], ◌∷◌, length, inl, inr, sym, ap, subst, ◌∙◌, arith}
+use Rattle.std.proofs.Common.{◌≡◌, ℕ, ◌*◌, ◌^◌, ◌≤◌, true, ℤ, pos, List, [], ◌∷◌, length, inl, inr, sym, ap, subst, ◌∙◌, arith}
 use Rattle.std.proofs.lemmas.Bool.{cases_lt}
 use Rattle.std.proofs.lemmas.List.{length-map}
 use Rattle.std.proofs.lemmas.List.Sums.{sum_by-cons}
 use Rattle.dt_copy.specs.Matching.{Begins, DifferAt}
-use Rattle.dt_copy.specs.Plan.{Copy, AreEnough, CanCopy, DifferFirst, copy_of}
-use Rattle.dt_copy.specs.Side.{kinds_of}
+use Rattle.dt_copy.specs.Plan.{Copy, AreEnough, DifferFirst, IsPlan, copy_of}
+use Rattle.dt_copy.specs.Side.{Reader, at_byte, kinds_of}
 use Rattle.dt_copy.proofs.Alike.{AreFirst, begins_alike, first_of_bytes}
 use Rattle.dt_copy.proofs.Elements.{length-kinds_of}
 use Rattle.dt_elems.proofs.Clashes.{overlaps_from_size}
@@ -48,19 +48,19 @@ no_more_than len fs inside apart =
       | inr few ↦ few
     ]
 
-pub few_target : (len : ℕ) (fs : List Entry) → len ≤ 16777216 → are_inside len fs ≡ true → (Overlaps fs → ⊥) → total Native fs ≤ 2 ^ 62
-few_target len fs small inside apart = let few = no_more_than len fs inside apart in omega (arith, few, small)
+-- where no kinds are compared yet, there are few bytes and elements on either side
+module _ (c : Copy) (are : AreEnough c) (small : c.target_len ≤ 16777216) where
+  few_bytes : total Native c.target ≤ c.target_len
+  few_bytes = no_more_than c.target_len c.target are.settable.inside.target are.settable.apart
 
--- nor have as many elements of any kinds many more
-pub few_source : (len : ℕ) (es fs : List Entry) → len ≤ 16777216 → are_inside len fs ≡ true → (Overlaps fs → ⊥) → length es ≤ length fs → total Native es ≤ 2 ^ 62
-few_source len es fs small inside apart fewer =
-    let few = no_more_than len fs inside apart in
-    omega (arith, few, small, fewer, few_bytes_each es, some_bytes_each fs)
+  pub few_into : total Native c.target ≤ 2 ^ 62
+  few_into = omega (arith, few_bytes, small)
 
-pub few_elements : (len : ℕ) (es fs : List Entry) → len ≤ 16777216 → are_inside len fs ≡ true → (Overlaps fs → ⊥) → length es ≤ length fs → length es ≤ 16777216
-few_elements len es fs small inside apart fewer =
-    let few = no_more_than len fs inside apart in
-    omega (arith, few, small, fewer, some_bytes_each fs)
+  pub few_from : total Native c.source ≤ 2 ^ 62
+  few_from = omega (arith, few_bytes, small, are.enough, few_bytes_each c.source, some_bytes_each c.target)
+
+  pub few_copied : length c.source ≤ 16777216
+  few_copied = omega (arith, few_bytes, small, are.enough, some_bytes_each c.target)
 
 -- elements that may be compared, wherever numbers put them
 module _ (source target : Marked) (source_count target_count source_len target_len : ℕ) (x y : ℤ) where
@@ -79,9 +79,6 @@ module _ (source target : Marked) (source_count target_count source_len target_l
     enough = fewer;
   }
 
-  pub can_copy : AreEnough the_copy → Begins (kinds_of from) (kinds_of into) → CanCopy the_copy
-  can_copy enough begins = record { enough = enough; alike = begins_alike from into begins enough.enough }
-
   pub differ_first : AreEnough the_copy → (byte at : ℕ) → DifferAt (kinds_of from) (kinds_of into) byte → at ≡ received_elements Native source byte → DifferFirst the_copy at
   differ_first enough byte at differ is =
       let within = differ.within in
@@ -89,3 +86,19 @@ module _ (source target : Marked) (source_count target_count source_len target_l
       let same : at ≡ done Native from byte = is ∙ sym (received_are_done Native source source_count byte x (omega (arith, within, long))) in
       let first = subst (AreFirst from into) (sym same) (first_of_bytes from into byte differ enough.enough) in
       record { enough = enough; within = first.0; before = first.1; here = first.2 }
+
+-- the copy of what one reader reads to what another does
+abbrev between : Reader → Reader → Copy
+between r s = record { source = r.elements; source_len = r.len; target = s.elements; target_len = s.len }
+
+-- the plan of two sides whose kinds begin alike, wherever they have gone
+pub plan_between : (k : Copy) (f g new_f new_g : Reader) (p q n : ℕ) → AreEnough k → n ≡ length k.source
+    → f ≡ record { elements = k.source; len = k.source_len; position = 0 } → g ≡ record { elements = k.target; len = k.target_len; position = 0 }
+    → Begins (kinds_of f.elements) (kinds_of g.elements) → new_f ≡ at_byte f p → new_g ≡ at_byte g q → IsPlan (between new_f new_g) n
+plan_between k f g new_f new_g p q n enough all is_f is_g begins moved_f moved_g =
+    let first : Reader = record { elements = k.source; len = k.source_len; position = 0 } in
+    let alike = subst (λ (r : Reader). Begins (kinds_of k.source) (kinds_of r.elements)) is_g (subst (λ (r : Reader). Begins (kinds_of r.elements) (kinds_of g.elements)) is_f begins) in
+    let whole : IsPlan k n = record { can = record { enough = enough; alike = begins_alike k.source k.target alike enough.enough }; all = all } in
+    let seen : between new_f new_g ≡ k =
+    ap (λ r. between r new_g) moved_f ∙ ap (between f) moved_g ∙ ap (λ r. between r g) is_f ∙ ap (between first) is_g in
+    subst (λ k. IsPlan k n) (sym seen) whole

@@ -1,5 +1,5 @@
 -- Plans of copies, and why there is none.
-use Rattle.std.specs.Prelude.{◌≡◌, ℕ, ◌<◌, ◌≤◌, ◌⊎◌, ⊤, ℤ, IsTrue, List, take, length, slice_get}
+use Rattle.std.specs.Prelude.{◌≡◌, ℕ, ◌<◌, ◌≤◌, ⊤, ℤ, IsTrue, List, take, length, slice_get}
 use Rattle.dt_copy.specs.declared.fault.CopyFault.{CopyFault}
 use Rattle.dt_copy.specs.declared.fault.CopyFault.TheVariants.{Outside, Overlap, Longer, Differs, NoMemory}
 use Rattle.dt_copy.specs.Copied.{signature}

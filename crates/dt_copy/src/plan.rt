@@ -1,7 +1,7 @@
 //! Plans of copies.
 ghost use Rattle.std.specs.Prelude.{◌≡◌, ◌≤◌, ℤ, IsErrOf, IfErr, IfOk, IsTrue, length};
 ghost use Rattle.dt_copy.specs.Copied.{copied};
-ghost use Rattle.dt_copy.specs.Plan.{copy_of, AreInside, CanCopy, IsRefused};
+ghost use Rattle.dt_copy.specs.Plan.{copy_of, AreInside, AreEnough, CanCopy, IsRefused};
 ghost use Rattle.dt_copy.specs.declared.fault.CopyFault.TheVariants as CopyFault;
 ghost use Rattle.dt_kinds.specs.declared.kind.Rep.TheVariants.{Native};
 ghost use Rattle.dt_map.specs.Elements.{elements};
@@ -46,6 +46,41 @@ fn number_of_elements(ty: &Datatype, count: u32) -> u128
     u128::from(count) * u128::from(ty.bounds().elements)
 }
 
+/// How many elements are copied, where every element lies in its buffer, no two of the target overlap and there are enough of them; else
+/// why they can't be. Their kinds aren't asked.
+fn enough_elements(
+    alloc: Global,
+    source: &Datatype,
+    source_count: u32,
+    source_origin: i64,
+    source_len: usize,
+    target: &Datatype,
+    target_count: u32,
+    target_origin: i64,
+    target_len: usize,
+) -> Result<u128, CopyFault>
+    requires { target_len ≤ 16777216 }
+    ensures enough { IfOk result (λ _. AreEnough (copy_of (typemap_of source.now) source_count source_origin source_len (typemap_of target.now) target_count target_origin target_len)) }
+    ensures number { IfOk result (λ n. n ≡ length (elements (typemap_of source.now) source_count source_origin)) }
+    ensures refused { IfErr result (IsRefused (copy_of (typemap_of source.now) source_count source_origin source_len (typemap_of target.now) target_count target_origin target_len)) }
+    ensures outside { ¬ AreInside (copy_of (typemap_of source.now) source_count source_origin source_len (typemap_of target.now) target_count target_origin target_len) → IsErrOf result CopyFault.Outside }
+{
+    if !span_inside(source, source_count, source_origin, source_len) {
+        return Err(CopyFault::Outside);
+    }
+    if !span_inside(target, target_count, target_origin, target_len) {
+        return Err(CopyFault::Outside);
+    }
+    if overlaps(alloc, target, target_count, target_origin, target_len)? {
+        return Err(CopyFault::Overlap);
+    }
+    let elements = number_of_elements(source, source_count);
+    if elements > number_of_elements(target, target_count) {
+        return Err(CopyFault::Longer);
+    }
+    Ok(elements)
+}
+
 impl CopyPlan {
     /// Plans the copy of so many copies of a datatype, the first of which begins at the origin in a buffer of `source_len` bytes, to
     /// those of another, in a buffer of `target_len` bytes; lengths are in bytes. `Outside` exactly where an element of either side lies
@@ -72,19 +107,17 @@ impl CopyPlan {
         ensures refused { IfErr result (IsRefused (copy_of (typemap_of source.now) source_count source_origin source_len (typemap_of target.now) target_count target_origin target_len)) }
         ensures outside { ¬ AreInside (copy_of (typemap_of source.now) source_count source_origin source_len (typemap_of target.now) target_count target_origin target_len) → IsErrOf result CopyFault.Outside }
     {
-        if !span_inside(source, source_count, source_origin, source_len) {
-            return Err(CopyFault::Outside);
-        }
-        if !span_inside(target, target_count, target_origin, target_len) {
-            return Err(CopyFault::Outside);
-        }
-        if overlaps(alloc, target, target_count, target_origin, target_len)? {
-            return Err(CopyFault::Overlap);
-        }
-        let elements = number_of_elements(source, source_count);
-        if elements > number_of_elements(target, target_count) {
-            return Err(CopyFault::Longer);
-        }
+        let elements = enough_elements(
+            alloc,
+            source,
+            source_count,
+            source_origin,
+            source_len,
+            target,
+            target_count,
+            target_origin,
+            target_len,
+        )?;
         let mut from = Side::new(alloc, source, source_count, source_origin, source_len)?;
         let mut to = Side::new(alloc, target, target_count, target_origin, target_len)?;
         if let Some(byte) = first_difference(&mut from, &mut to) {

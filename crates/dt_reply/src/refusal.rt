@@ -13,7 +13,7 @@ pub enum Refusal {
     NameTaken,
     /// A basic type that is used is left out by this library, such as `MPI_DOUBLE`.
     UnsupportedKind,
-    /// A session would be opened over a type that isn't committed.
+    /// A session would be opened, or elements copied or reduced, over a type that isn't committed.
     NotCommitted,
     /// A basic type would be freed.
     BasicType,
@@ -37,7 +37,8 @@ pub enum Refusal {
     Outside,
     /// Two elements that would be written have a common byte.
     Overlap,
-    /// A buffer, all buffers together, the packed bytes or those of all sessions together would be too many bytes.
+    /// A buffer, all buffers together, the packed bytes, or those of all sessions or ranks together would be too many bytes; or there are
+    /// too many ranks.
     TooLarge,
     /// Bytes would be taken from an unpack session, or sought in it, or given to a pack session.
     WrongDirection,

@@ -7,6 +7,8 @@ mod copies;
 #[cfg(test)]
 mod lines;
 #[cfg(test)]
+mod moves;
+#[cfg(test)]
 mod replies;
 #[cfg(test)]
 mod sinks;

@@ -1,4 +1,4 @@
-use Rattle.std.proofs.Common.{◌≡◌, ◌+◌, subst, sym, ap, ◌∙◌, arith}
+use Rattle.std.proofs.Common.{◌≡◌, ◌+◌, ap, ◌∙◌, arith}
 use Rattle.dt_copy.specs.Side.{Reader, at_byte, onward}
 use Rattle.dt_copy.proofs.Pieces.{piece_copied}
 use Rattle.dt_copy.proofs.copying.copy_pieces.Goals as goal

@@ -1,6 +1,6 @@
-use Rattle.std.proofs.Common.{◌≡◌, ◌+◌, ◌≤◌, length, take, drop, replicate, subst, sym, ap, ◌∙◌, arith}
+use Rattle.std.proofs.Common.{drop, replicate, subst, ap, ◌∙◌, arith}
 use Rattle.dt_copy.specs.Matching.{Begins, DifferAt}
-use Rattle.dt_copy.specs.Side.{Reader, IsNextStretch, at_byte, onward, kinds_of}
+use Rattle.dt_copy.specs.Side.{Reader, IsNextStretch, onward, kinds_of}
 use Rattle.dt_copy.proofs.Alike.{stretch_same, stretch_differs}
 use Rattle.dt_copy.proofs.matching.first_difference.Goals as goal
 

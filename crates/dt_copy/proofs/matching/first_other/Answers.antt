@@ -1,7 +1,6 @@
-use Rattle.std.proofs.Common.{◌≡◌, ◌+◌, ◌≤◌, length, take, drop, replicate, refl, length-drop, subst, sym, ap, ◌∙◌, arith}
+use Rattle.std.proofs.Common.{◌≡◌, ◌+◌, length, take, drop, replicate, refl, length-drop, subst, sym, ap, ◌∙◌, arith}
 use Rattle.std.proofs.lemmas.Bool.{false≢true}
 use Rattle.std.proofs.lemmas.List.{drop-drop}
-use Rattle.dt_copy.specs.declared.side.Stretch.{Stretch}
 use Rattle.dt_copy.specs.Side.{Reader, IsNextStretch, at_byte, onward, kinds_of}
 use Rattle.dt_copy.proofs.Alike.{same_more, other_next, next_kind, some_same, none_is_other}
 use Rattle.dt_copy.proofs.matching.first_other.Goals as goal
