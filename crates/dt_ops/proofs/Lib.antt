@@ -1,4 +1,5 @@
 pub mod Bits
 pub mod Choosing
+pub mod Folding
 pub mod Lawful
 pub mod Range

@@ -1,3 +1,4 @@
+pub mod Bracketing
 pub mod Joins
 pub mod Laws
 pub mod Stored

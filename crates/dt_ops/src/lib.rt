@@ -3,6 +3,7 @@
 #![tactic(auto)]
 
 pub mod law;
+pub mod laws;
 pub mod ops;
 pub mod stored;
 pub mod word;
