@@ -4,6 +4,8 @@ use Rattle.std.specs.Prelude.{◌≡◌, ◌≢◌, length, true, false, IsTrue,
 use Rattle.dt_copy.specs.Copied.{copied}
 use Rattle.dt_copy.specs.Plan.{Copy}
 use Rattle.dt_reduce.specs.Plan.{Reduction}
+use Rattle.dt_reduce.specs.Folded.{folded}
+use Rattle.dt_reduce.specs.Ranks.{Ranked, elements_at, CanReduceAll}
 use Rattle.dt_reduce.specs.Reduced.{reduced}
 use Rattle.dt_reply.specs.declared.refusal.Refusal.TheVariants as refusal
 use Rattle.dt_reply.specs.Reply.{is_accepted}
@@ -13,7 +15,7 @@ use Rattle.dt_type.specs.Basic.{is_basic}
 use Rattle.dt_type.specs.declared.fault.CtorFault.{CtorFault}
 use Rattle.dt_type.specs.declared.fault.CtorFault.TheVariants as fault
 use Rattle.dt_machine.specs.declared.outcome.Change.{Change}
-use Rattle.dt_machine.specs.declared.outcome.Change.TheVariants.{Nothing, AddType, Commit, Free, AddBuffer, SetWeights, AddCost, OpenSession, SeekSession, TakeBytes, CloseSession, CopyBytes, ReduceBytes}
+use Rattle.dt_machine.specs.declared.outcome.Change.TheVariants.{Nothing, AddType, Commit, Free, AddBuffer, SetWeights, AddCost, OpenSession, SeekSession, TakeBytes, CloseSession, CopyBytes, ReduceBytes, ReduceRanks}
 use Rattle.dt_machine.specs.declared.outcome.Outcome.{Outcome}
 use Rattle.dt_names.specs.declared.stop.Stop.{Stop}
 use Rattle.dt_names.specs.declared.stop.Stop.TheVariants.{Refused, NoMemory}
@@ -45,6 +47,11 @@ abbrev pub with_made : State → List ℕ → Option (List ℕ) → Option (List
 with_made s name (Some old) (Some held) makes = with_bytes s name (makes old held)
 with_made s name old held makes = s
 
+-- where a buffer stands, the state with what is made of it in its place
+abbrev pub with_set : State → List ℕ → Option (List ℕ) → (List ℕ → List ℕ) → State
+with_set s name (Some held) makes = with_bytes s name (makes held)
+with_set s name None makes = s
+
 -- the state behind a change
 abbrev pub changed : Change → State → State
 changed Nothing s = s
@@ -61,6 +68,8 @@ changed (CloseSession name) s = without_session s name
 changed (CopyBytes plan source target) s = with_made s target (under source s.buffers) (under target s.buffers) (copied plan.source plan.target)
 changed (ReduceBytes op plan source target) s =
     with_made s target (under source s.buffers) (under target s.buffers) (reduced (join_of op) plan.source plan.target)
+changed (ReduceRanks op ranks merges origin target) s =
+    with_set s target (under target s.buffers) (folded (join_of op) (elements_at ranks origin) ranks.rows)
 
 -- two buffers that differ, and have these lengths
 abbrev pub CanMake : State → List ℕ → List ℕ → ℕ → ℕ → Type 0
@@ -85,6 +94,7 @@ CanChange (TakeBytes name byte count) s = IsSomeAnd (under name s.sessions) (λ 
 CanChange (CloseSession name) s = Unit {0}
 CanChange (CopyBytes plan source target) s = CanMake s source target plan.source_len plan.target_len
 CanChange (ReduceBytes op plan source target) s = CanMake s source target plan.source_len plan.target_len
+CanChange (ReduceRanks op ranks merges origin target) s = IsSomeAnd (under target s.buffers) (λ held. CanReduceAll ranks merges origin (length held))
 
 -- a command that is allowed: its reply, and the change that it makes
 pub record IsOutcome (s : State) (command : Command) (o : Outcome) : Type 0 where

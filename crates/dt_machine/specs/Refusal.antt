@@ -1,8 +1,9 @@
 -- When a command is refused, and by which number.
-use Rattle.std.specs.Prelude.{◌≡◌, ℕ, ◌+◌, ◌≤◌, ◌<◌, ℤ, pos, nat_abs, int_lt, ◌<ℤ◌, Bool, ◌||◌, IsTrue, IsFalse, is_none, List, [], ◌∷◌, length, None, true, false, ◌⊎◌}
+use Rattle.std.specs.Prelude.{◌≡◌, ℕ, ◌+◌, ◌*◌, ◌≤◌, ◌<◌, ℤ, pos, nat_abs, int_lt, ◌<ℤ◌, Bool, ◌||◌, IsTrue, IsFalse, is_none, List, [], ◌∷◌, length, None, true, false, ◌⊎◌}
 use Rattle.std.specs.Option.{IsSomeAnd}
 use Rattle.dt_kinds.specs.Name.{is_left_out}
 use Rattle.dt_kinds.specs.declared.kind.Rep.{Rep}
+use Rattle.dt_kinds.specs.declared.kind.Rep.TheVariants.{Native}
 use Rattle.dt_map.specs.declared.entry.Entry.{Entry}
 use Rattle.dt_map.specs.Elements.{elements, are_inside, Overlaps}
 use Rattle.dt_map.specs.Packed.{total}
@@ -10,7 +11,7 @@ use Rattle.dt_reply.specs.declared.refusal.Refusal.{Refusal}
 use Rattle.dt_reply.specs.declared.refusal.Refusal.TheVariants.{UnknownName, NameTaken, UnsupportedKind, NotCommitted, BasicType, NamedType, NoSuchChild, BadArgument, Overflow, TooDeep, TooHeavy, TooManyNames, TooManyEntries, Outside, Overlap, TooLarge, WrongDirection, Truncated, SignatureDiffers, SameBuffer, BadWire}
 use Rattle.dt_reply.specs.Refusal.{number_of}
 use Rattle.dt_script.specs.declared.command.Command.{Command}
-use Rattle.dt_script.specs.declared.command.Command.TheVariants.{Define, Child, Commit, Free, Info, Map, Envelope, Contents, Buffer, Show, Bytes, Elements, Pack, Take, Seek, Close, Unpack, Give, Copy as CopyCommand, Export, Import, Reduce, Weights, Normalise, Rebuild}
+use Rattle.dt_script.specs.declared.command.Command.TheVariants.{Define, Child, Commit, Free, Info, Map, Envelope, Contents, Buffer, Show, Bytes, Elements, Pack, Take, Seek, Close, Unpack, Give, Copy as CopyCommand, Export, Import, Reduce, Reduceall, Weights, Normalise, Rebuild}
 use Rattle.dt_script.specs.declared.command.Fill.{Fill}
 use Rattle.dt_script.specs.declared.command.Fill.TheVariants.{Zero, Count, Hex}
 use Rattle.dt_script.specs.Olds.{any_old}
@@ -26,11 +27,11 @@ use Rattle.dt_sessions.specs.declared.session.Opened.{Opened}
 use Rattle.dt_wire.specs.Fault.{IsText}
 use Rattle.dt_wire.specs.Import.{IsRefused}
 use Rattle.dt_sessions.specs.Open.{is_packing, total_in, rest_in}
-use Rattle.dt_machine.specs.declared.limits.TheConstants.{MOST_TYPES, MOST_MADE, MOST_BUFFERS, LARGEST_BUFFER, MOST_BYTES, MOST_ENTRIES, MOST_SOUGHT, MOST_PACKED, MOST_SESSIONS, MOST_OPEN}
+use Rattle.dt_machine.specs.declared.limits.TheConstants.{MOST_TYPES, MOST_MADE, MOST_BUFFERS, LARGEST_BUFFER, MOST_BYTES, MOST_ENTRIES, MOST_SOUGHT, MOST_PACKED, MOST_SESSIONS, MOST_OPEN, MOST_RANKS, MOST_REDUCED}
 use Rattle.dt_machine.specs.Choice.{AreWeights, AreTooWide}
 use Rattle.dt_machine.specs.Made.{IsFaultIn}
 use Rattle.dt_machine.specs.Row.{Row, ◌when◌, condition}
-use Rattle.dt_machine.specs.Sides.{side, is_side_unknown, IsNotCommitted, OfCopy, Differ, OfReduction}
+use Rattle.dt_machine.specs.Sides.{side, is_side_unknown, is_some_lost, IsNotCommitted, OfCopy, Differ, OfReduction}
 use Rattle.dt_machine.specs.State.{State, type_of, buffer_of, is_unknown, is_basic_word, is_type_taken, is_buffer_taken, is_session_taken, session_of, packed_open, bytes_held}
 use Rattle.dt_names.specs.Names.{bytes_of}
 
@@ -56,6 +57,15 @@ IsOutside s ty buffer count origin =
 -- the packed bytes of an operation and of all open sessions together are too many
 abbrev pub IsTooMuch : State → Rep → ℤ → ℤ → Kept → Type 0
 IsTooMuch s rep count origin kept = MOST_OPEN < packed_open s + total rep (elements_of kept count origin)
+
+-- some byte of some element lies outside one of several buffers
+abbrev pub IsOutsideOne : State → List ℕ → List (List ℕ) → ℤ → ℤ → Type 0
+IsOutsideOne s ty [] count origin = ⊥
+IsOutsideOne s ty (buffer ∷ buffers) count origin = IsOutside s ty buffer count origin ⊎ IsOutsideOne s ty buffers count origin
+
+-- too many ranks, or their elements have too many bytes together
+abbrev pub AreTooMany : ℕ → ℤ → ℤ → Kept → Type 0
+AreTooMany number count origin kept = (MOST_RANKS < number) ⊎ (MOST_REDUCED < total Native (elements_of kept count origin) * number)
 
 -- a packed byte that a session hasn't
 abbrev pub IsBeyond : ℤ → Opened → Type 0
@@ -199,6 +209,15 @@ conditions s (Reduce op count ty source source_origin target target_origin) =
     ∷ Outside when OfReduction s from onto (λ r. ¬ reduction.AreInside r)
     ∷ Overlap when OfReduction s from onto (λ r. Overlaps r.target)
     ∷ SameBuffer when (source ≡ target)
+    ∷ []
+conditions s (Reduceall op how count ty origin target ranks) =
+    UnknownName when IsTrue (is_unknown s ty || is_some_lost s (target ∷ ranks))
+    ∷ UnsupportedKind when IsTrue (is_left_out ty)
+    ∷ NotCommitted when IsNotCommitted s ty
+    ∷ BadArgument when IsTrue (int_lt count (pos 0))
+    ∷ Outside when IsOutsideOne s ty (target ∷ ranks) count origin
+    ∷ Overlap when IsSomeAnd (type_of s ty) (λ kept. Overlaps (elements_of kept count origin))
+    ∷ TooLarge when IsSomeAnd (type_of s ty) (AreTooMany (length ranks) count origin)
     ∷ []
 conditions s (Weights leaf vector index place group part) = BadArgument when (¬ AreWeights leaf vector index place group part) ∷ []
 conditions s (Normalise ty) =

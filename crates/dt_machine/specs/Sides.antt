@@ -1,6 +1,7 @@
--- Operations over two buffers, by name: what stands of them, and what is said of it.
-use Rattle.std.specs.Option.{IsSomeAnd}
-use Rattle.std.specs.Prelude.{◌≡◌, ℕ, ◌<◌, ℤ, nat_abs, false, List, length, slice_get, ◌||◌, Bool, is_none}
+-- Operations over several buffers, by name: what stands of them, and what is said of it.
+use Rattle.std.specs.List.{list_any}
+use Rattle.std.specs.Option.{IsSomeAnd, option_and_then, option_map}
+use Rattle.std.specs.Prelude.{◌≡◌, ℕ, ◌<◌, ℤ, nat_abs, false, List, [], ◌∷◌, Option, Some, length, slice_get, ◌||◌, Bool, is_none}
 use Rattle.dt_copy.specs.Copied.{signature}
 use Rattle.dt_copy.specs.Plan.{Copy, copy_of}
 use Rattle.dt_names.specs.declared.kept.Kept.{Kept}
@@ -53,3 +54,12 @@ abbrev pub OfReduction : State → Side → Side → (Reduction → Type 0) → 
 OfReduction s source target P =
     IsSomeAnd (type_of s target.ty) (λ kept. IsSomeAnd (buffer_of s source.buffer) (λ old. IsSomeAnd (buffer_of s target.buffer) (λ held.
     P (reduction_between source target kept old held))))
+
+-- some buffer of these names doesn't stand
+abbrev pub is_some_lost : State → List (List ℕ) → Bool
+is_some_lost s names = list_any (λ name. is_none (buffer_of s name)) names
+
+-- the bytes of the buffers of these names; none where one doesn't stand
+abbrev pub buffers_of : State → List (List ℕ) → Option (List (List ℕ))
+buffers_of s [] = Some []
+buffers_of s (name ∷ names) = option_and_then (λ bytes. option_map (λ more. bytes ∷ more) (buffers_of s names)) (buffer_of s name)

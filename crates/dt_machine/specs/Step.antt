@@ -1,18 +1,19 @@
 -- What a line does to the state, and what is replied.
-use Rattle.std.specs.Prelude.{◌≡◌, ℕ, ◌+◌, min, length, ℤ, nat_abs, false, if◌then◌else◌, List, Option, Some, ◌⊎◌}
+use Rattle.std.specs.Prelude.{◌≡◌, ℕ, ◌+◌, min, length, ℤ, nat_abs, false, if◌then◌else◌, List, map, Option, Some, ◌⊎◌}
 use Rattle.dt_copy.specs.Copied.{copied}
 use Rattle.dt_kinds.specs.declared.kind.Rep.{Rep}
 use Rattle.dt_kinds.specs.declared.kind.Rep.TheVariants.{Native}
 use Rattle.dt_map.specs.Bounds.{bounds_of}
 use Rattle.dt_map.specs.Counts.{received_elements, received_copies}
 use Rattle.dt_map.specs.Packed.{packed, total}
+use Rattle.dt_reduce.specs.Folded.{folded, words_of}
 use Rattle.dt_reduce.specs.Reduced.{reduced}
 use Rattle.dt_reply.specs.declared.refusal.Refusal.{Refusal}
 use Rattle.dt_reply.specs.declared.refusal.Refusal.TheVariants.{Syntax}
 use Rattle.dt_reply.specs.declared.reply.Reply.{Reply}
-use Rattle.dt_reply.specs.declared.reply.Reply.TheVariants.{Silent, Done, Packed, Shown, Told, Listed, Described, Contained, Counted, Opened, Given, Closed, Copied, Wire, Reduced, Refused}
+use Rattle.dt_reply.specs.declared.reply.Reply.TheVariants.{Silent, Done, Packed, Shown, Told, Listed, Described, Contained, Counted, Opened, Given, Closed, Copied, Wire, Reduced, ReducedAll, Refused}
 use Rattle.dt_script.specs.declared.command.Command.{Command}
-use Rattle.dt_script.specs.declared.command.Command.TheVariants.{Define, Child, Commit, Free, Info, Map, Envelope, Contents, Buffer, Show, Bytes, Elements, Pack, Take, Seek, Close, Unpack, Give, Copy as CopyCommand, Export, Import, Reduce, Weights, Normalise, Rebuild}
+use Rattle.dt_script.specs.declared.command.Command.TheVariants.{Define, Child, Commit, Free, Info, Map, Envelope, Contents, Buffer, Show, Bytes, Elements, Pack, Take, Seek, Close, Unpack, Give, Copy as CopyCommand, Export, Import, Reduce, Reduceall, Weights, Normalise, Rebuild}
 use Rattle.dt_script.specs.Name.{begins_with_mpi}
 use Rattle.dt_script.specs.Line.{Meaning, Blank, Fault, Does, IsLine}
 use Rattle.dt_type.specs.declared.datatype.Seen.{Seen}
@@ -32,6 +33,7 @@ use Rattle.dt_machine.specs.Choice.{weights_by, MayBeTold, cost_told, tells}
 use Rattle.dt_machine.specs.Made.{form_in, is_committed_by}
 use Rattle.dt_machine.specs.Joins.{join_of}
 use Rattle.dt_machine.specs.Refusal.{elements_of, IsRefusedBy, IsAllowed}
+use Rattle.dt_machine.specs.Sides.{buffers_of}
 use Rattle.dt_machine.specs.State.{State, type_of, buffer_of, session_of, with_session, with_moved, with_given, without_session, with_taken, with_received, with_type, with_committed, without_type, with_buffer, with_bytes, with_weights, with_cost, with_count}
 use Rattle.dt_names.specs.Names.{bytes_of}
 use Rattle.dt_unpack.specs.Session as unpack
@@ -137,6 +139,13 @@ Performs (Reduce op count ty source source_origin target target_origin) s reply 
     × (let es = elements_of kept count source_origin in
     let fs = elements_of kept count target_origin in
     (reply ≡ Reduced (length fs)) × (t ≡ with_count (with_bytes s target (reduced (join_of op) es fs old held))))
+-- the words of the target's elements become what the ranks' words of the same number are joined to, in the order of the ranks
+Performs (Reduceall op how count ty origin target ranks) s reply t =
+    (kept : Kept) × (held : List ℕ) × (buffers : List (List ℕ)) × (type_of s ty ≡ Some kept) × (buffer_of s target ≡ Some held)
+    × (buffers_of s ranks ≡ Some buffers)
+    × (let fs = elements_of kept count origin in
+    (reply ≡ ReducedAll (length fs) (length ranks))
+    × (t ≡ with_count (with_bytes s target (folded (join_of op) fs (map (words_of fs) buffers) held))))
 -- trees are weighed so from now on
 Performs (Weights leaf vector index place group part) s reply t =
     (reply ≡ Done) × (t ≡ with_count (with_weights s (weights_by leaf vector index place group part)))

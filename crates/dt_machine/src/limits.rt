@@ -27,5 +27,11 @@ pub const MOST_SESSIONS: usize = 256;
 /// So many packed bytes all open sessions together may have.
 pub const MOST_OPEN: u64 = 16_777_216;
 
+/// So many ranks may be reduced at once.
+pub const MOST_RANKS: usize = 1024;
+
+/// So many bytes the elements of all ranks together may have.
+pub const MOST_REDUCED: u128 = 16_777_216;
+
 /// So many packed bytes a reply prints.
 pub const MOST_PACKED: u128 = 16_777_216;

@@ -4,11 +4,12 @@ ghost use Rattle.dt_reply.specs.declared.reply.Reply.TheVariants.{Done};
 
 use dt_copy::CopyPlan;
 use dt_names::{Buffer, Kept};
-use dt_reduce::ReducePlan;
+use dt_reduce::{Ranks, ReducePlan};
 use dt_reply::Reply;
 use dt_script::{Name, Op};
 use dt_sessions::Opened;
 use dt_tree::Weights;
+use sqlite_items::Items;
 
 /// What a command adds to what stands.
 #[derive(Drop)]
@@ -26,6 +27,7 @@ pub(crate) enum Change {
     CloseSession { name: Name },
     CopyBytes { plan: CopyPlan, source: Name, target: Name },
     ReduceBytes { op: Op, plan: ReducePlan, source: Name, target: Name },
+    ReduceRanks { op: Op, ranks: Ranks, merges: Items<u32>, origin: i64, target: Name },
 }
 
 /// The reply to a command that is allowed, and the change that it makes.
