@@ -1,5 +1,5 @@
 -- When elements are copied, and what comes of it.
-use Rattle.std.proofs.Common.{◌≡◌, ℕ, ◌≤◌, ◌<◌, ℤ, pos, nat_abs, Bool, true, false, ◌||◌, List, take, length, Option, Some, None, inl, inr, IsTrue, slice_get, refl, sym, ap, subst, ◌∙◌, arith}
+use Rattle.std.proofs.Common.{◌≡◌, ◌⊎◌, ℕ, ◌≤◌, ◌<◌, ℤ, pos, nat_abs, Bool, true, false, ◌||◌, List, take, length, Option, Some, None, inl, inr, IsTrue, slice_get, refl, sym, ap, subst, ◌∙◌, arith}
 use Rattle.std.proofs.lemmas.Bool.{or_from, or_left, or_right, false_from_ne_true}
 use Rattle.std.specs.Option.{is_none, IsSomeAnd}
 use Rattle.std.specs.Prelude.{int_lt}
@@ -287,4 +287,4 @@ module _ (s : State) (source_count : ℤ) (source_type source : List ℕ) (sourc
             let made : with_made s target (under source s.buffers) (under target s.buffers) (copied the_copy.source the_copy.target) ≡ with_bytes s target (copied the_copy.source the_copy.target old held) =
             ap (λ o. with_made s target o (under target s.buffers) (copied the_copy.source the_copy.target)) there
             ∙ ap (λ o. with_made s target (Some old) o (copied the_copy.source the_copy.target)) here
-            in (from, onto, old, held, one, other, there, here, refl, ap with_count made)
+            in (from, onto, old, held, one, other, there, here, (refl, ap with_count made))

@@ -99,7 +99,7 @@ copies_one : (s : State) (source_count : ℤ) (source_type source : List ℕ) (s
     → let command = CopyCommand source_count source_type source source_origin target_count target_type target target_origin in
     Performs command s reply t → Performs command s other u → IsOne reply other t u
 copies_one s source_count source_type source source_origin target_count target_type target target_origin t u reply other
-    (from, onto, old, held, a, b, c, d, said, new) (from2, onto2, old2, held2, e, f, g, h, told, now) =
+    (from, onto, old, held, a, b, c, d, (said, new)) (from2, onto2, old2, held2, e, f, g, h, (told, now)) =
     let one : from ≡ from2 = some_same from from2 (sym a ∙ e) in
     let two : onto ≡ onto2 = some_same onto onto2 (sym b ∙ f) in
     let three : old ≡ old2 = some_same old old2 (sym c ∙ g) in
@@ -112,9 +112,9 @@ copies_one s source_count source_type source source_origin target_count target_t
     let second : fs ≡ fs2 = ap (λ k. elements_of k target_count target_origin) two in (
       said ∙ (ap (λ xs. Copied (length xs) (total Native xs)) first ∙ sym told),
       new
-      ∙ (ap (λ xs. with_copied s target xs fs old held) first
-      ∙ (ap (λ xs. with_copied s target es2 xs old held) second
-      ∙ (ap (λ x. with_copied s target es2 fs2 x held) three ∙ (ap (with_copied s target es2 fs2 old2) four ∙ sym now)))),
+          ∙ (ap (λ xs. with_copied s target xs fs old held) first
+          ∙ (ap (λ xs. with_copied s target es2 xs old held) second
+          ∙ (ap (λ x. with_copied s target es2 fs2 x held) three ∙ (ap (with_copied s target es2 fs2 old2) four ∙ sym now)))),
     )
 
 abbrev with_reduced : State → Op → List ℕ → List Entry → List Entry → List ℕ → List ℕ → State
@@ -135,9 +135,9 @@ reduces_one s op count ty source source_origin target target_origin t u reply ot
     let second : fs ≡ fs2 = ap (λ k. elements_of k count target_origin) one in (
       said ∙ (ap (λ xs. Reduced (length xs)) second ∙ sym told),
       new
-      ∙ (ap (λ xs. with_reduced s op target xs fs old held) first
-      ∙ (ap (λ xs. with_reduced s op target es2 xs old held) second
-      ∙ (ap (λ x. with_reduced s op target es2 fs2 x held) two ∙ (ap (with_reduced s op target es2 fs2 old2) three ∙ sym now)))),
+          ∙ (ap (λ xs. with_reduced s op target xs fs old held) first
+          ∙ (ap (λ xs. with_reduced s op target es2 xs old held) second
+          ∙ (ap (λ x. with_reduced s op target es2 fs2 x held) two ∙ (ap (with_reduced s op target es2 fs2 old2) three ∙ sym now)))),
     )
 
 performs_one : (command : Command) (s t u : State) (reply other : Reply) → (¬ ChoosesBy s command) → Performs command s reply t → Performs command s other u

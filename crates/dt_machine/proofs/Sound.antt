@@ -216,7 +216,7 @@ performs_sound (Give session piece) s t reply sound may (o, bytes, found, stands
         ] in
         subst IsSound (sym is) (gives s sound session o.buffer u at bytes piece stands short (min (s.totals.given + length piece) (2 ^ 64 - 1))
         (min (s.totals.elements + length (unpack.completed u piece)) (2 ^ 64 - 1)) (with_count s).totals.commands (omega arith) (omega arith))
-performs_sound (CopyCommand source_count source_type source source_origin target_count target_type target target_origin) s t reply sound may (from, onto, old, held, a, b, c, d, said, new) =
+performs_sound (CopyCommand source_count source_type source source_origin target_count target_type target target_origin) s t reply sound may (from, onto, old, held, a, b, c, d, (said, new)) =
     let clear = (allowed_is_clear s (CopyCommand source_count source_type source source_origin target_count target_type target target_origin)).0 may in
     let into = copied (elements_of from source_count source_origin) (elements_of onto target_count target_origin) old held in
     let of = side source_count source_type source source_origin in

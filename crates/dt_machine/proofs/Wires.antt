@@ -1,6 +1,8 @@
 -- When types are told as bytes, and read from them.
-use Rattle.std.proofs.Common.{◌≡◌, ℕ, ◌<◌, Bool, true, false, List, [], Result, Ok, Err, Some, None, IsTrue, refl, sym, ap, subst, ◌∙◌}
+use Rattle.std.proofs.Common.{◌≡◌, ℕ, ◌<◌, Bool, true, false, List, [], Result, Ok, Err, Option, Some, None, IsTrue, refl, sym, ap, subst, ◌∙◌}
+use Rattle.std.specs.Option.{MatchOption}
 use Rattle.dt_form.specs.declared.form.FormOf.{FormOf}
+use Rattle.dt_type.specs.Basic.{is_basic}
 use Rattle.dt_type.specs.declared.datatype.Seen.{Seen}
 use Rattle.dt_type.specs.declared.fault.CtorFault.{CtorFault}
 use Rattle.dt_type.specs.declared.fault.CtorFault.TheVariants as fault
@@ -9,6 +11,7 @@ use Rattle.dt_names.specs.declared.stop.Stop.{Stop}
 use Rattle.dt_names.specs.declared.stop.Stop.TheVariants.{Refused, NoMemory}
 use Rattle.dt_names.specs.Missing.{IsMissing}
 use Rattle.dt_reply.specs.declared.refusal.Refusal.{Refusal}
+use Rattle.dt_reply.specs.declared.reply.Reply.TheVariants.{Done}
 use Rattle.dt_reply.specs.declared.refusal.Refusal.TheVariants as refusal
 use Rattle.dt_script.specs.declared.command.Command.{Command}
 use Rattle.dt_script.specs.declared.command.Command.TheVariants.{Export, Import}
@@ -18,9 +21,11 @@ use Rattle.dt_wire.specs.Import.{IsImported, IsRead, IsRefused}
 use Rattle.dt_wire.specs.declared.fault.WireFault.{WireFault}
 use Rattle.dt_wire.specs.declared.fault.WireFault.TheVariants as wire
 use Rattle.dt_machine.specs.Operation.{IsUnread}
-use Rattle.dt_machine.specs.Outcome.{IsStop}
+use Rattle.dt_machine.specs.declared.outcome.Change.TheVariants.{AddType}
+use Rattle.dt_machine.specs.Outcome.{IsStop, changed}
 use Rattle.dt_machine.specs.Refusal.{IsRefusedBy, IsAllowed, NoMoreTypes}
-use Rattle.dt_machine.specs.State.{State, type_of, is_type_taken}
+use Rattle.dt_machine.specs.State.{State, type_of, is_type_taken, with_type, with_count}
+use Rattle.dt_machine.specs.Step.{Performs}
 use Rattle.dt_machine.proofs.Rows.{refused, allowed}
 use Rattle.dt_machine.proofs.TypeWords.{missing, is_known, is_supported}
 
@@ -89,6 +94,10 @@ module _ (s : State) (name bytes : List ℕ) where
       (λ r. other_answer bytes (Err wire.TooHeavy) (Ok t) r is (λ e. cc) (λ e. cc) (λ e. cc)),
     )
 
+    pub none_found : (found : Option Seen) → MatchOption found (¬ IsText bytes) (IsImported bytes) → NoneRefuses
+    none_found None is = none_spelled is
+    none_found (Some t) is = none_read t is
+
     module _ (none : NoneRefuses) where
       pub import_full : NoMoreTypes s → IsRefusedBy s imports refusal.TooManyNames
       import_full full = refused s imports refusal.TooManyNames (new, (none.0, (none.1, (none.2, (none.3, full)))))
@@ -99,3 +108,9 @@ module _ (s : State) (name bytes : List ℕ) where
 
         pub import_allowed : IsText bytes → IsAllowed s imports
         import_allowed text = allowed s imports (new, (none.0, (none.1, (none.2, (none.3, (more, ((λ not. not text), tt)))))))
+
+-- the type that was read stands under the name
+pub import_performs : (s : State) (name bytes : List ℕ) (t : Seen) → IsImported bytes t
+    → Performs (Import name bytes) s Done (with_count (changed (AddType name (record { ty = t; committed = is_basic t })) s))
+import_performs s name bytes t is =
+    (is.form, is.text, refl, ap (λ x. with_count (with_type s name (record { ty = x; committed = is_basic x }))) is.value)

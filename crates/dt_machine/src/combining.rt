@@ -7,8 +7,8 @@ ghost use Rattle.dt_reduce.specs.Reduced.{reduced};
 ghost use Rattle.dt_sessions.specs.Open.{with_bytes};
 
 use dt_ops::{
-    AndLaw, FirstLaw, LastLaw, MaxLaw, MinLaw, OrLaw, ProdLaw, StoredOp, SumLaw, XorLaw, and, first,
-    last, max, min, or, prod, sum, xor,
+    AndLaw, FirstLaw, LastLaw, MaxLaw, MinLaw, OrLaw, ProdLaw, StoredOp, SumLaw, XorLaw, and,
+    first, last, max, min, or, prod, sum, xor,
 };
 use dt_reduce::ReducePlan;
 use dt_script::{Name, Op};
@@ -30,18 +30,66 @@ pub(crate) fn reduce_in(
     ensures { (old held : List ℕ) → under source.now transfers.old.buffers ≡ Some old → under target.now transfers.old.buffers ≡ Some held → transfers.new ≡ with_bytes transfers.old target.now (reduced (join_of op) plan.old.source plan.old.target old held) }
 {
     match op {
-        Op::Sum => transfers.reduce(alloc, plan, &StoredOp::<SumLaw, _>::new(sum), source, target),
-        Op::Prod => transfers.reduce(alloc, plan, &StoredOp::<ProdLaw, _>::new(prod), source, target),
-        Op::Min => transfers.reduce(alloc, plan, &StoredOp::<MinLaw, _>::new(min), source, target),
-        Op::Max => transfers.reduce(alloc, plan, &StoredOp::<MaxLaw, _>::new(max), source, target),
-        Op::And => transfers.reduce(alloc, plan, &StoredOp::<AndLaw, _>::new(and), source, target),
+        Op::Sum => transfers.reduce(
+            alloc,
+            plan,
+            &StoredOp::<SumLaw, _>::new(sum),
+            source,
+            target,
+        ),
+        Op::Prod => transfers.reduce(
+            alloc,
+            plan,
+            &StoredOp::<ProdLaw, _>::new(prod),
+            source,
+            target,
+        ),
+        Op::Min => transfers.reduce(
+            alloc,
+            plan,
+            &StoredOp::<MinLaw, _>::new(min),
+            source,
+            target,
+        ),
+        Op::Max => transfers.reduce(
+            alloc,
+            plan,
+            &StoredOp::<MaxLaw, _>::new(max),
+            source,
+            target,
+        ),
+        Op::And => transfers.reduce(
+            alloc,
+            plan,
+            &StoredOp::<AndLaw, _>::new(and),
+            source,
+            target,
+        ),
         Op::Or => transfers.reduce(alloc, plan, &StoredOp::<OrLaw, _>::new(or), source, target),
-        Op::Xor => transfers.reduce(alloc, plan, &StoredOp::<XorLaw, _>::new(xor), source, target),
+        Op::Xor => transfers.reduce(
+            alloc,
+            plan,
+            &StoredOp::<XorLaw, _>::new(xor),
+            source,
+            target,
+        ),
         Op::First => {
-            transfers.reduce(alloc, plan, &StoredOp::<FirstLaw, _>::new(first), source, target)
+            transfers.reduce(
+                alloc,
+                plan,
+                &StoredOp::<FirstLaw, _>::new(first),
+                source,
+                target,
+            )
         }
         Op::Last => {
-            transfers.reduce(alloc, plan, &StoredOp::<LastLaw, _>::new(last), source, target)
+            transfers.reduce(
+                alloc,
+                plan,
+                &StoredOp::<LastLaw, _>::new(last),
+                source,
+                target,
+            )
         }
     };
 }

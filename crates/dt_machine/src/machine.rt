@@ -13,8 +13,8 @@ ghost use Rattle.dt_machine.specs.Step.{Step, Obeys, with_piece};
 ghost use Rattle.dt_reply.specs.Reply.{Gives, Responds, text_of};
 ghost use Rattle.dt_reply.specs.declared.reply.Reply.TheVariants.{Refused};
 
-use crate::limits::{MOST_MADE, MOST_TYPES};
 use crate::combining::reduce_in;
+use crate::limits::{MOST_MADE, MOST_TYPES};
 use crate::outcome::{Change, Outcome};
 use crate::state::Totals;
 use dt_kinds::NoMemory;
@@ -266,7 +266,14 @@ impl Machine {
                 mut plan,
                 source,
                 target,
-            } => reduce_in(&mut self.transfers, self.alloc, op, &mut plan, &source, &target),
+            } => reduce_in(
+                &mut self.transfers,
+                self.alloc,
+                op,
+                &mut plan,
+                &source,
+                &target,
+            ),
         }
         self.totals.commands = self.totals.commands.saturating_add(1);
         Ok(())
@@ -371,7 +378,15 @@ impl Machine {
                 source_origin,
                 target,
                 target_origin,
-            } => self.reduce(*op, *count, ty, source, *source_origin, target, *target_origin),
+            } => self.reduce(
+                *op,
+                *count,
+                ty,
+                source,
+                *source_origin,
+                target,
+                *target_origin,
+            ),
             Command::Weights {
                 leaf,
                 vector,

@@ -15,19 +15,60 @@ use sqlite_items::Items;
 #[derive(Drop)]
 pub(crate) enum Change {
     Nothing,
-    AddType { name: Name, kept: Kept },
-    Commit { name: Name },
-    Free { name: Name },
-    AddBuffer { name: Name, buffer: Buffer },
-    SetWeights { weights: Weights },
-    AddCost { cost: u64 },
-    OpenSession { name: Name, opened: Opened },
-    SeekSession { name: Name, byte: u64 },
-    TakeBytes { name: Name, byte: u64, count: u64 },
-    CloseSession { name: Name },
-    CopyBytes { plan: CopyPlan, source: Name, target: Name },
-    ReduceBytes { op: Op, plan: ReducePlan, source: Name, target: Name },
-    ReduceRanks { op: Op, ranks: Ranks, merges: Items<u32>, origin: i64, target: Name },
+    AddType {
+        name: Name,
+        kept: Kept,
+    },
+    Commit {
+        name: Name,
+    },
+    Free {
+        name: Name,
+    },
+    AddBuffer {
+        name: Name,
+        buffer: Buffer,
+    },
+    SetWeights {
+        weights: Weights,
+    },
+    AddCost {
+        cost: u64,
+    },
+    OpenSession {
+        name: Name,
+        opened: Opened,
+    },
+    SeekSession {
+        name: Name,
+        byte: u64,
+    },
+    TakeBytes {
+        name: Name,
+        byte: u64,
+        count: u64,
+    },
+    CloseSession {
+        name: Name,
+    },
+    CopyBytes {
+        plan: CopyPlan,
+        source: Name,
+        target: Name,
+    },
+    ReduceBytes {
+        op: Op,
+        plan: ReducePlan,
+        source: Name,
+        target: Name,
+    },
+    ReduceRanks {
+        op: Op,
+        ranks: Ranks,
+        merges: Items<u32>,
+        origin: i64,
+        target: Name,
+    },
 }
 
 /// The reply to a command that is allowed, and the change that it makes.
