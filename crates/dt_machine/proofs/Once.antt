@@ -1,5 +1,5 @@
 -- A step is a function, and so are the answers to an input.
-use Rattle.std.proofs.Common.{◌≡◌, ℕ, ◌+◌, ◌<◌, ℤ, pos, nat_abs, false, cond, List, [], ◌∷◌, length, Option, Some, None, inl, inr, refl, sym, ap, subst, ◌∙◌, arith}
+use Rattle.std.proofs.Common.{◌≡◌, ℕ, ◌+◌, ◌<◌, ℤ, pos, nat_abs, false, cond, List, [], ◌∷◌, map, length, Option, Some, None, inl, inr, refl, sym, ap, subst, ◌∙◌, arith}
 use Rattle.std.proofs.lemmas.Bool.{cases_lt}
 use Rattle.std.specs.List.{AllByRecursion}
 use Rattle.std.specs.Option.{IsSomeAnd}
@@ -10,15 +10,17 @@ use Rattle.dt_map.specs.Packed.{packed, total}
 use Rattle.dt_copy.proofs.Alike.{some_same}
 use Rattle.dt_copy.specs.Copied.{copied}
 use Rattle.dt_kinds.specs.declared.kind.Rep.TheVariants.{Native}
+use Rattle.dt_reduce.specs.Folded.{folded, words_of}
 use Rattle.dt_reduce.specs.Reduced.{reduced}
 use Rattle.dt_reply.specs.declared.refusal.Refusal.{Refusal}
 use Rattle.dt_reply.specs.declared.reply.Reply.{Reply}
-use Rattle.dt_reply.specs.declared.reply.Reply.TheVariants.{Done, Packed, Shown, Told, Listed, Described, Contained, Counted, Opened, Given, Closed, Copied, Wire, Reduced, Refused}
+use Rattle.dt_reply.specs.declared.reply.Reply.TheVariants.{Done, Packed, Shown, Told, Listed, Described, Contained, Counted, Opened, Given, Closed, Copied, Wire, Reduced, ReducedAll, Refused}
 use Rattle.dt_reply.specs.Refusal.{number_of}
 use Rattle.dt_reply.proofs.Numbers.{one_refusal}
 use Rattle.dt_script.specs.declared.command.Command.{Command}
+use Rattle.dt_script.specs.declared.command.How.{How}
 use Rattle.dt_script.specs.declared.command.Op.{Op}
-use Rattle.dt_script.specs.declared.command.Command.TheVariants.{Define, Child, Commit, Free, Info, Map, Envelope, Contents, Buffer, Show, Bytes, Elements, Pack, Take, Seek, Close, Unpack, Give, Copy as CopyCommand, Export, Import, Reduce, Weights, Normalise, Rebuild}
+use Rattle.dt_script.specs.declared.command.Command.TheVariants.{Define, Child, Commit, Free, Info, Map, Envelope, Contents, Buffer, Show, Bytes, Elements, Pack, Take, Seek, Close, Unpack, Give, Copy as CopyCommand, Export, Import, Reduce, Reduceall, Weights, Normalise, Rebuild}
 use Rattle.dt_script.specs.Line.{Meaning, Blank, Fault, Does, IsLine}
 use Rattle.dt_script.specs.Lines.{script_lines}
 use Rattle.dt_script.specs.Name.{begins_with_mpi}
@@ -140,6 +142,24 @@ reduces_one s op count ty source source_origin target target_origin t u reply ot
           ∙ (ap (λ x. with_reduced s op target es2 fs2 x held) two ∙ (ap (with_reduced s op target es2 fs2 old2) three ∙ sym now)))),
     )
 
+abbrev with_folded : State → Op → List ℕ → List Entry → List (List ℕ) → List ℕ → State
+with_folded s op target fs buffers held = with_count (with_bytes s target (folded (join_of op) fs (map (words_of fs) buffers) held))
+
+ranks_one : (s : State) (op : Op) (how : How) (count : ℤ) (ty : List ℕ) (origin : ℤ) (target : List ℕ) (ranks : List (List ℕ)) (t u : State) (reply other : Reply)
+    → let command = Reduceall op how count ty origin target ranks in Performs command s reply t → Performs command s other u → IsOne reply other t u
+ranks_one s op how count ty origin target ranks t u reply other (kept, held, buffers, a, b, c, (said, new)) (kept2, held2, buffers2, d, e, f, (told, now)) =
+    let one : kept ≡ kept2 = some_same kept kept2 (sym a ∙ d) in
+    let two : held ≡ held2 = some_same held held2 (sym b ∙ e) in
+    let three : buffers ≡ buffers2 = some_same buffers buffers2 (sym c ∙ f) in
+    let fs = elements_of kept count origin in
+    let fs2 = elements_of kept2 count origin in
+    let same : fs ≡ fs2 = ap (λ k. elements_of k count origin) one in (
+      said ∙ (ap (λ xs. ReducedAll (length xs) (length ranks)) same ∙ sym told),
+      new
+      ∙ (ap (λ xs. with_folded s op target xs buffers held) same
+      ∙ (ap (λ bs. with_folded s op target fs2 bs held) three ∙ (ap (with_folded s op target fs2 buffers2) two ∙ sym now))),
+    )
+
 performs_one : (command : Command) (s t u : State) (reply other : Reply) → (¬ ChoosesBy s command) → Performs command s reply t → Performs command s other u
     → IsOne reply other t u
 performs_one (Define name ctor) s t u reply other none p q =
@@ -198,6 +218,7 @@ performs_one (Import name wire) s t u reply other none (form, a, b, c) (form2, d
     (b ∙ sym e, c ∙ (ap (λ x. with_count (with_type s name (record { ty = result_of x; committed = is_basic (result_of x) }))) same ∙ sym f))
 performs_one (Reduce op count ty source source_origin target target_origin) s t u reply other none p q =
     reduces_one s op count ty source source_origin target target_origin t u reply other p q
+performs_one (Reduceall op how count ty origin target ranks) s t u reply other none p q = ranks_one s op how count ty origin target ranks t u reply other p q
 performs_one (Weights leaf vector index place group part) s t u reply other none p q = (p.0 ∙ sym q.0, p.1 ∙ sym q.1)
 performs_one (Normalise ty) s t u reply other none (kept, base, tree, a, b, c, d) (kept2, base2, tree2, e, f, g, h) =
     let few = no_choice s.weights (entries_of kept.ty) base tree (λ some. none (some_and (type_of s ty) HasEntries kept a some)) b in

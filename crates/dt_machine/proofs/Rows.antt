@@ -5,7 +5,7 @@ use Rattle.std.specs.Option.{IsSomeAnd}
 use Rattle.dt_reply.specs.declared.refusal.Refusal.{Refusal}
 use Rattle.dt_reply.specs.Refusal.{number_of}
 use Rattle.dt_script.specs.declared.command.Command.{Command}
-use Rattle.dt_script.specs.declared.command.Command.TheVariants.{Define, Child, Commit, Free, Info, Map, Envelope, Contents, Buffer, Show, Bytes, Elements, Pack, Take, Seek, Close, Unpack, Give, Copy as CopyCommand, Export, Import, Reduce, Weights, Normalise, Rebuild}
+use Rattle.dt_script.specs.declared.command.Command.TheVariants.{Define, Child, Commit, Free, Info, Map, Envelope, Contents, Buffer, Show, Bytes, Elements, Pack, Take, Seek, Close, Unpack, Give, Copy as CopyCommand, Export, Import, Reduce, Reduceall, Weights, Normalise, Rebuild}
 use Rattle.dt_machine.specs.Refusal.{conditions, IsRefusedBy, IsAllowed}
 use Rattle.dt_machine.specs.Row.{Row, condition, IsFirst, IsClear, is_rising}
 use Rattle.dt_machine.specs.State.{State}
@@ -34,6 +34,7 @@ rises s (CopyCommand source_count source_type source source_origin target_count 
 rises s (Export ty) = refl
 rises s (Import name wire) = refl
 rises s (Reduce op count ty source source_origin target target_origin) = refl
+rises s (Reduceall op how count ty origin target ranks) = refl
 rises s (Weights leaf vector index place group part) = refl
 rises s (Normalise ty) = refl
 rises s (Rebuild name ty) = refl

@@ -1,23 +1,24 @@
 -- Copies and reductions leave each buffer as long as it was.
-use Rattle.std.proofs.Common.{◌≡◌, ◌⊎◌, ℕ, zero, suc, ◌*◌, ◌≤◌, ◌<◌, ℤ, pos, Bool, true, false, List, [], ◌∷◌, take, map, length, Option, Some, inl, inr, slice_get, refl, sym, ap, subst, ◌∙◌, arith}
+use Rattle.std.proofs.Common.{◌≡◌, ◌⊎◌, ℕ, zero, suc, ◌+◌, ◌≤◌, ◌<◌, ℤ, nat_abs, Bool, true, false, List, [], ◌∷◌, take, drop, map, length, Option, Some, inl, inr, slice_get, refl, sym, ap, subst, ◌∙◌, arith}
 use Rattle.std.proofs.lemmas.Bool.{cases_lt}
+use Rattle.std.proofs.lemmas.List.{length-take}
 use Rattle.std.proofs.lemmas.Slice.Eq.{bytes_eq-Decides}
 use Rattle.std.specs.Str.{bytes_eq}
 use Rattle.dt_copy.proofs.Alike.{some_same}
-use Rattle.dt_copy.proofs.Opened.{number_of}
+use Rattle.dt_copy.proofs.Bytes.{length-written}
+use Rattle.dt_copy.proofs.Elements.{inside_parts}
 use Rattle.dt_copy.proofs.Places.{others_are_kept}
 use Rattle.dt_copy.specs.Copied.{copied, signature}
 use Rattle.dt_copy.specs.Plan.{Copy, AreInside, CanCopy}
 use Rattle.dt_kinds.proofs.Table.{names_differ}
 use Rattle.dt_kinds.specs.declared.kind.Kind.{Kind}
 use Rattle.dt_kinds.specs.declared.kind.Rep.TheVariants.{Native}
-use Rattle.dt_kinds.specs.Kind.{name_of}
-use Rattle.dt_map.proofs.Writing.{setting_keeps_the_rest}
+use Rattle.dt_kinds.specs.Kind.{name_of, native_size}
 use Rattle.dt_map.specs.declared.entry.Entry.{Entry}
 use Rattle.dt_map.specs.Elements.{are_inside, Overlaps}
-use Rattle.dt_map.specs.Packed.{total}
+use Rattle.dt_map.specs.Setting.{set_each, written}
 use Rattle.dt_map.specs.Typemap.{Marked}
-use Rattle.dt_reduce.proofs.Reducing.{length-joined}
+use Rattle.dt_reduce.specs.Folded.{folded, folded_bytes, words_of}
 use Rattle.dt_reduce.specs.Plan.{reduction_of}
 use Rattle.dt_reduce.specs.Plan as reduction
 use Rattle.dt_reduce.specs.Reduced.{joined_bytes, reduced}
@@ -70,13 +71,27 @@ pub length_copied : (c : Copy) (source target : List ℕ) → length source ≡ 
     → length (copied c.source c.target source target) ≡ length target
 length_copied c source target from to can = (others_are_kept c source target from to can).0
 
+-- setting elements leaves a buffer as long as it was, whatever they are set to
+length_set : (fs : List Entry) (buffer images : List ℕ) → are_inside (length buffer) fs ≡ true → length (set_each Native fs buffer images) ≡ length buffer
+length_set [] buffer images inside = refl
+length_set (f ∷ fs) buffer images inside =
+    let (here, others) = inside_parts (length buffer) f fs inside in
+    let size = native_size f.kind in
+    let ends = here.ends in
+    let some = length-take size images in
+    let one : length (written buffer (nat_abs f.disp) (take size images)) ≡ length buffer = length-written buffer (nat_abs f.disp) (take size images) (omega (arith, ends, some)) in
+    length_set fs (written buffer (nat_abs f.disp) (take size images)) (drop size images) (ap (λ n. are_inside n fs) one ∙ others) ∙ one
+
 -- a buffer whose elements were reduced
 pub length_reduced : (join : Kind → ℕ → ℕ → ℕ) (m : Marked) (count : ℕ) (source_origin : ℤ) (source_len : ℕ) (target_origin : ℤ) (source target : List ℕ)
     → (¬ (¬ reduction.AreInside (reduction_of m count source_origin source_len target_origin (length target))))
     → let r = reduction_of m count source_origin source_len target_origin (length target) in length (reduced join r.source r.target source target) ≡ length target
 length_reduced join m count source_origin source_len target_origin source target inside =
     let r = reduction_of m count source_origin source_len target_origin (length target) in
-    let same : length r.source ≡ length r.target = number_of m count source_origin ∙ sym (number_of m count target_origin) in
-    let all = length-joined join r.source r.target source target same in
-    (setting_keeps_the_rest Native r.target target (joined_bytes join r.source r.target source target)
-    (true_of (are_inside (length target) r.target) (λ not. inside (λ are. not are.target))) (omega (arith, all))).0
+    length_set r.target target (joined_bytes join r.source r.target source target)
+    (true_of (are_inside (length target) r.target) (λ not. inside (λ are. not are.target)))
+
+-- and one whose elements were set to what ranks come to
+pub length_folded : (join : Kind → ℕ → ℕ → ℕ) (fs : List Entry) (buffers : List (List ℕ)) (into : List ℕ) → are_inside (length into) fs ≡ true
+    → length (folded join fs (map (words_of fs) buffers) into) ≡ length into
+length_folded join fs buffers into inside = length_set fs into (folded_bytes join fs (map (words_of fs) buffers)) inside

@@ -1,5 +1,5 @@
 -- What is known of a state stays known, whatever is obeyed.
-use Rattle.std.proofs.Common.{◌≡◌, ℕ, ◌+◌, ◌-◌, ◌^◌, ◌≤◌, ◌<◌, ℤ, pos, nat_abs, Bool, true, false, List, [], length, Option, Some, None, inl, inr, refl, sym, ap, subst, ◌∙◌, arith}
+use Rattle.std.proofs.Common.{◌≡◌, ℕ, ◌+◌, ◌-◌, ◌^◌, ◌≤◌, ◌<◌, ℤ, pos, nat_abs, Bool, true, false, List, [], ◌∷◌, map, length, Option, Some, None, inl, inr, refl, sym, ap, subst, ◌∙◌, arith}
 use Rattle.std.specs.BTreeMap.{is_at, insert_entry}
 use Rattle.std.specs.Cmp.Lexicographic.{slice_cmp}
 use Rattle.std.specs.Map.{set_value}
@@ -11,13 +11,14 @@ use Rattle.std.proofs.lemmas.Bool.{cases_lt}
 use Rattle.dt_copy.specs.Copied.{copied}
 use Rattle.dt_copy.specs.Plan.{AreInside}
 use Rattle.dt_reduce.specs.Plan as reduction
+use Rattle.dt_reduce.specs.Folded.{folded, words_of}
 use Rattle.dt_reduce.specs.Reduced.{reduced}
 use Rattle.dt_map.specs.Elements.{elements, are_inside, Overlaps}
 use Rattle.dt_map.specs.Typemap.{shift}
 use Rattle.dt_reply.specs.declared.reply.Reply.{Reply}
 use Rattle.dt_rows.proofs.Operation.{placed_elements}
 use Rattle.dt_script.specs.declared.command.Command.{Command}
-use Rattle.dt_script.specs.declared.command.Command.TheVariants.{Define, Child, Commit, Free, Info, Map, Envelope, Contents, Buffer, Show, Bytes, Elements, Pack as OpenPack, Unpack as OpenUnpack, Take, Seek, Close, Give, Copy as CopyCommand, Export, Import, Reduce, Weights, Normalise, Rebuild}
+use Rattle.dt_script.specs.declared.command.Command.TheVariants.{Define, Child, Commit, Free, Info, Map, Envelope, Contents, Buffer, Show, Bytes, Elements, Pack as OpenPack, Unpack as OpenUnpack, Take, Seek, Close, Give, Copy as CopyCommand, Export, Import, Reduce, Reduceall, Weights, Normalise, Rebuild}
 use Rattle.dt_script.specs.Line.{Meaning, Blank, Fault, Does}
 use Rattle.dt_script.specs.Name.{begins_with_mpi}
 use Rattle.dt_sessions.specs.declared.session.Opened.{Opened}
@@ -33,7 +34,7 @@ use Rattle.dt_unpack.proofs.Pieces.{between_any, given_within}
 use Rattle.dt_names.specs.declared.kept.Kept.{Kept}
 use Rattle.dt_names.specs.Names.{bytes_of}
 use Rattle.dt_machine.specs.Pieces.{IsSound, IsSoundIn, SoundIsKept}
-use Rattle.dt_machine.specs.Refusal.{elements_of, IsAllowed, IsOutside, IsSending, IsTruncated}
+use Rattle.dt_machine.specs.Refusal.{elements_of, IsAllowed, IsOneOutside, IsOutside, IsSending, IsTruncated}
 use Rattle.dt_machine.specs.State.{State, type_of, buffer_of, session_of, with_committed, with_count}
 use Rattle.dt_machine.specs.Step.{begun, receiving, taken_by, with_piece, Performs, Obeys, Meets}
 use Rattle.dt_machine.specs.Joins.{join_of}
@@ -41,7 +42,7 @@ use Rattle.dt_machine.specs.Sides.{side, copy_between, Differ}
 use Rattle.dt_machine.proofs.Copies.{of_copy}
 use Rattle.dt_machine.proofs.Reductions.{of_reduction}
 use Rattle.dt_machine.proofs.Rows.{allowed_is_clear, some_and}
-use Rattle.dt_machine.proofs.Settled.{can_copy, length_copied, length_reduced}
+use Rattle.dt_machine.proofs.Settled.{can_copy, length_copied, length_folded, length_reduced}
 
 -- a state that differs in nothing of which something is known
 abbrev IsLike : State → State → Type 0
@@ -234,6 +235,14 @@ performs_sound (Reduce op count ty source source_origin target target_origin) s 
     let holds = of_reduction s op count ty source source_origin target target_origin old held b c kept a in
     subst IsSound (sym new) (keeps s sound target held c into (length_reduced (join_of op) (typemap_of kept.ty) (nat_abs count) source_origin (length old) target_origin old held
     (λ out. clear.1.1.1.1.0 (holds (λ r. ¬ reduction.AreInside r) out))) (with_count s).totals.commands)
+performs_sound (Reduceall op how count ty origin target ranks) s t reply sound may (kept, held, buffers, a, b, c, (said, new)) =
+    let clear = (allowed_is_clear s (Reduceall op how count ty origin target ranks)).0 may in
+    let fs = elements_of kept count origin in
+    let into = folded (join_of op) fs (map (words_of fs) buffers) held in
+    let inside : ¬ (are_inside (length held) fs ≡ false) =
+    λ out. clear.1.1.1.1.0 (some_and (type_of s ty) (λ k. IsOneOutside s (target ∷ ranks) (elements_of k count origin)) kept a
+    (inl (some_and (buffer_of s target) (λ bytes. IsFalse (are_inside (length bytes) fs)) held b out))) in
+    subst IsSound (sym new) (keeps s sound target held b into (length_folded (join_of op) fs buffers held (not_false (are_inside (length held) fs) inside)) (with_count s).totals.commands)
 performs_sound (Weights leaf vector index place group part) s t reply sound may (said, new) = like s t _ sound new same
 performs_sound (Normalise ty) s t reply sound may (kept, base, tree, a, b, said, new) = like s t _ sound new same
 performs_sound (Rebuild name ty) s t reply sound may (kept, base, tree, a, b, said, new) = like s t _ sound new same

@@ -1,7 +1,8 @@
 -- What keeps operations from being performed, by what stands of them. No public clause cites this module.
 use Rattle.std.specs.Option.{IsSomeAnd}
-use Rattle.std.specs.Prelude.{◌||◌, ◌⊎◌, is_none, ◌≡◌, ℕ, ◌<◌, ◌≤◌, false, length, List, ℤ, pos, nat_abs, int_lt, IsTrue, IsFalse, [], ◌∷◌, ◌++◌}
+use Rattle.std.specs.Prelude.{◌||◌, ◌⊎◌, is_none, ◌≡◌, ℕ, ◌<◌, ◌≤◌, false, length, List, map, ℤ, pos, nat_abs, int_lt, IsTrue, IsFalse, [], ◌∷◌, ◌++◌}
 use Rattle.dt_kinds.specs.declared.kind.Rep.{Rep}
+use Rattle.dt_map.specs.Typemap.{Marked}
 use Rattle.dt_map.specs.Elements.{elements, are_inside, Overlaps}
 use Rattle.dt_map.specs.Packed.{total}
 use Rattle.dt_reply.specs.declared.refusal.Refusal.TheVariants.{UnknownName, NameTaken, UnsupportedKind, NotCommitted, BadArgument, Overflow, TooDeep, TooHeavy, TooManyNames, Outside, Overlap, TooLarge, WrongDirection, Truncated, SignatureDiffers}
@@ -13,7 +14,9 @@ use Rattle.dt_copy.specs.Plan as copy
 use Rattle.dt_names.specs.declared.kept.Kept.{Kept}
 use Rattle.dt_names.specs.declared.stop.Stop.{Stop}
 use Rattle.dt_names.specs.declared.stop.Stop.TheVariants.{Refused, NoMemory}
+use Rattle.dt_reduce.specs.Folded.{words_of}
 use Rattle.dt_reduce.specs.Plan as reduction
+use Rattle.dt_reduce.specs.Ranks.{Ranked}
 use Rattle.dt_type.specs.declared.fault.CtorFault.TheVariants as fault
 use Rattle.dt_wire.specs.Import.{IsRefused}
 use Rattle.dt_machine.specs.Refusal.{elements_of, IsTooMuch, IsSending, IsTruncated}
@@ -86,6 +89,10 @@ IsUnreduced r (Refused Outside) = ¬ reduction.AreInside r
 IsUnreduced r (Refused Overlap) = reduction.AreInside r × Overlaps r.target
 IsUnreduced r NoMemory = Unit {0}
 IsUnreduced r stop = ⊥
+
+-- the ranks that buffers hold
+abbrev pub ranks_in : Marked → ℕ → ℤ → List (List ℕ) → Ranked
+ranks_in m count origin buffers = record { typemap = m; count = count; rows = map (words_of (elements m count origin)) buffers }
 
 -- why no type is made of bytes that spell one
 abbrev pub IsUnread : List ℕ → Stop → Type 0

@@ -58,10 +58,10 @@ IsOutside s ty buffer count origin =
 abbrev pub IsTooMuch : State → Rep → ℤ → ℤ → Kept → Type 0
 IsTooMuch s rep count origin kept = MOST_OPEN < packed_open s + total rep (elements_of kept count origin)
 
--- some byte of some element lies outside one of several buffers
-abbrev pub IsOutsideOne : State → List ℕ → List (List ℕ) → ℤ → ℤ → Type 0
-IsOutsideOne s ty [] count origin = ⊥
-IsOutsideOne s ty (buffer ∷ buffers) count origin = IsOutside s ty buffer count origin ⊎ IsOutsideOne s ty buffers count origin
+-- some byte of these elements lies outside one of the buffers that stand under these names
+abbrev pub IsOneOutside : State → List (List ℕ) → List Entry → Type 0
+IsOneOutside s [] es = ⊥
+IsOneOutside s (name ∷ names) es = IsSomeAnd (buffer_of s name) (λ bytes. IsFalse (are_inside (length bytes) es)) ⊎ IsOneOutside s names es
 
 -- too many ranks, or their elements have too many bytes together
 abbrev pub AreTooMany : ℕ → ℤ → ℤ → Kept → Type 0
@@ -215,7 +215,7 @@ conditions s (Reduceall op how count ty origin target ranks) =
     ∷ UnsupportedKind when IsTrue (is_left_out ty)
     ∷ NotCommitted when IsNotCommitted s ty
     ∷ BadArgument when IsTrue (int_lt count (pos 0))
-    ∷ Outside when IsOutsideOne s ty (target ∷ ranks) count origin
+    ∷ Outside when IsSomeAnd (type_of s ty) (λ kept. IsOneOutside s (target ∷ ranks) (elements_of kept count origin))
     ∷ Overlap when IsSomeAnd (type_of s ty) (λ kept. Overlaps (elements_of kept count origin))
     ∷ TooLarge when IsSomeAnd (type_of s ty) (AreTooMany (length ranks) count origin)
     ∷ []

@@ -12,6 +12,7 @@ pub mod machine;
 mod names;
 mod outcome;
 mod queries;
+mod ranks;
 mod receiving;
 mod reducing;
 mod sessions;

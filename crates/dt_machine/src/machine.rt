@@ -4,6 +4,7 @@ ghost use Rattle.dt_machine.specs.Outcome.{CanChange, ComesTo, IsGift, changed};
 ghost use Rattle.dt_names.specs.Missing.{IsMissing};
 ghost use Rattle.dt_machine.specs.State.{first_state, type_of, buffer_of, is_unknown, is_basic_word, is_type_taken, is_buffer_taken, bytes_held, session_of, is_session_taken, packed_open, with_count};
 ghost use Rattle.dt_sessions.specs.declared.session.Opened.{Opened as OpenedValue};
+ghost use Rattle.dt_script.specs.Command.{HasRanks};
 ghost use Rattle.dt_script.specs.declared.command.Command.TheVariants.{Give};
 ghost use Rattle.dt_sessions.specs.Open.{next_in, receipt_in, CanGive, CanTake, IsSmall};
 ghost use Rattle.dt_names.specs.Names.{under};
@@ -13,7 +14,7 @@ ghost use Rattle.dt_machine.specs.Step.{Step, Obeys, with_piece};
 ghost use Rattle.dt_reply.specs.Reply.{Gives, Responds, text_of};
 ghost use Rattle.dt_reply.specs.declared.reply.Reply.TheVariants.{Refused};
 
-use crate::combining::reduce_in;
+use crate::combining::{reduce_in, reduce_ranks_in};
 use crate::limits::{MOST_MADE, MOST_TYPES};
 use crate::outcome::{Change, Outcome};
 use crate::state::Totals;
@@ -274,6 +275,21 @@ impl Machine {
                 &source,
                 &target,
             ),
+            Change::ReduceRanks {
+                op,
+                mut ranks,
+                merges,
+                origin,
+                target,
+            } => reduce_ranks_in(
+                &mut self.transfers,
+                self.alloc,
+                op,
+                &mut ranks,
+                merges.as_slice(),
+                origin,
+                &target,
+            )?,
         }
         self.totals.commands = self.totals.commands.saturating_add(1);
         Ok(())
@@ -306,7 +322,8 @@ impl Machine {
 
     /// What a command comes to that gives no piece. It changes nothing.
     fn outcome(&mut self, command: &Command) -> Result<Outcome, Stop>
-        requires { ¬ IsGift command.now }
+        requires gift { ¬ IsGift command.now }
+        requires ranks { HasRanks command.now }
         ensures same { self.new ≡ self.old }
         ensures outcome { ComesTo self.old command.now result }
     {
@@ -387,6 +404,15 @@ impl Machine {
                 target,
                 *target_origin,
             ),
+            Command::Reduceall {
+                op,
+                how,
+                count,
+                ty,
+                origin,
+                target,
+                ranks,
+            } => self.reduce_all(*op, *how, *count, ty, *origin, target, ranks.as_slice()),
             Command::Weights {
                 leaf,
                 vector,
@@ -401,8 +427,9 @@ impl Machine {
     }
 
     /// Obeys a command: one reply line is appended. It answers whether the reply is no refusal. A refused command leaves the
-    /// machine as it was. Where memory runs out the machine and `out` are as before.
+    /// machine as it was. Where memory runs out the machine and `out` are as before. A reduction of ranks has one.
     pub fn step(&mut self, command: &Command, out: &mut Vec<u8>) -> Result<bool, NoMemory>
+        requires { HasRanks command.now }
         ensures ok { IfOk result (λ accepted. Responds
             (λ reply. Obeys command.now self.old reply self.new) accepted out.old.items out.new.items) }
         ensures err { OnErr result ((self.new ≡ self.old) × (out.new.items ≡ out.old.items)) }

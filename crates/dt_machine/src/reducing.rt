@@ -18,7 +18,7 @@ use dt_type::Datatype;
 use std::alloc::Global;
 
 /// Why nothing is reduced, by the flag of the type and the count.
-fn refused_count(kept: &Kept, count: i32) -> Option<Refusal>
+pub(crate) fn refused_count(kept: &Kept, count: i32) -> Option<Refusal>
     ensures { MatchOption result (IsClear (counted_row kept.now count)) (IsFirst (counted_row kept.now count)) }
 {
     if !kept.committed {
@@ -61,7 +61,7 @@ fn planned(
 }
 
 /// How many elements so many copies of a datatype have.
-fn element_count(ty: &Datatype, copies: u32) -> u64
+pub(crate) fn element_count(ty: &Datatype, copies: u32) -> u64
     requires few { length (elements (typemap_of ty.now) copies (pos 0)) ≤ 16777216 }
     ensures { (origin : ℤ) → result ≡ length (elements (typemap_of ty.now) copies origin) }
 {
