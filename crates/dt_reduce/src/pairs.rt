@@ -8,6 +8,7 @@ ghost use Rattle.dt_rows.specs.Rows.{bytes_in};
 ghost use Rattle.dt_type.specs.Datatype.{typemap_of};
 
 use crate::rows::{NAMED_MAX, join_rows, whole_rows};
+use crate::words::join_words;
 use dt_cursor::{Cursor, Rows};
 use dt_kinds::{NoMemory, Rep};
 use dt_layout::compile;
@@ -134,6 +135,27 @@ impl Pairs {
                 self.target_origin,
                 target,
             );
+        }
+    }
+
+    /// How many packed bytes the elements have that were joined.
+    fn passed(&self) -> u64 {
+        self.cursor.position()
+    }
+
+    /// Joins the words of packed bytes of all elements with those of others, from the first on.
+    pub fn join_packed<L: Law, F: Call>(
+        &mut self,
+        op: &StoredOp<L, F>,
+        source: &[u8],
+        target: &mut [u8],
+    ) {
+        self.rewind();
+        let mut at = 0;
+        'rows: while let Some(rows) = self.next_rows() {
+            let count = (rows.rows * rows.run.elements) as usize;
+            join_words(op, rows.run.kind, count, &source[at..], &mut target[at..]);
+            at += (rows.rows * rows.run.bytes) as usize;
         }
     }
 }
