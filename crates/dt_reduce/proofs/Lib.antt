@@ -1,9 +1,12 @@
+mod Answering
 pub mod Apart
 pub mod Boundary
 pub mod Gathered
+mod Halving
 pub mod Joining
+pub mod Merging
 pub mod Planning
 pub mod Reducing
 pub mod Uniform
-pub mod WordLaw
 pub mod Walking
+pub mod WordLaw

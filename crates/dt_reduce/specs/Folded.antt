@@ -31,7 +31,11 @@ abbrev pub bytes_of_row : List Kind → List ℕ → List ℕ
 bytes_of_row (kind ∷ kinds) (word ∷ words) = little_bytes (native_size kind) word ++ bytes_of_row kinds words
 bytes_of_row kinds words = []
 
+-- the bytes of what the ranks' words of each element are joined to, in the order in which the ranks were added
+abbrev pub folded_bytes : (Kind → ℕ → ℕ → ℕ) → List Entry → List (List ℕ) → List ℕ
+folded_bytes join es rows = bytes_of_row (kinds_of es) (folded_row join (kinds_of es) rows)
+
 -- a buffer in which the word of each element is what the ranks' words of the same number are joined to, in the order in which the ranks
 -- were added; every other byte is as before
 abbrev pub folded : (Kind → ℕ → ℕ → ℕ) → List Entry → List (List ℕ) → List ℕ → List ℕ
-folded join fs rows into = set_each Native fs into (bytes_of_row (kinds_of fs) (folded_row join (kinds_of fs) rows))
+folded join fs rows into = set_each Native fs into (folded_bytes join fs rows)

@@ -11,13 +11,17 @@ use Rattle.dt_map.specs.declared.entry.Entry.{Entry}
 use Rattle.dt_map.specs.Elements.{elements}
 use Rattle.dt_map.specs.Packed.{total}
 use Rattle.dt_map.specs.Typemap.{Marked}
-use Rattle.dt_reduce.specs.Folded.{kinds_of}
+use Rattle.dt_reduce.specs.Folded.{kinds_of, joined_row, bytes_of_row}
 use Rattle.dt_reduce.specs.Ranks.{Ranked, elements_at, bytes_of}
 
 -- the words of such kinds that bytes are, one after another
 abbrev pub row_of : List Kind → List ℕ → List ℕ
 row_of [] bytes = []
 row_of (kind ∷ kinds) bytes = little_number (native_size kind) bytes ∷ row_of kinds (drop (native_size kind) bytes)
+
+-- the bytes of what the words of such kinds in two lists of bytes are joined to
+abbrev pub joined_packed : (Kind → ℕ → ℕ → ℕ) → List Kind → List ℕ → List ℕ → List ℕ
+joined_packed join kinds source target = bytes_of_row kinds (joined_row join kinds (row_of kinds source) (row_of kinds target))
 
 -- the rows of words that the bytes of ranks are
 abbrev pub rows_of : List Kind → List (Vec ℕ) → List (List ℕ)
@@ -32,8 +36,11 @@ pub record ArePacked (es : List Entry) (bytes : List ℕ) : Type 0 where
   pub all : length bytes ≡ total Native es
   pub bytes : AreBytes bytes
 
+abbrev pub ArePackedRows : List Entry → List (Vec ℕ) → Type 0
+ArePackedRows es stored = AllByRecursion (λ bytes. ArePacked es bytes.items) stored
+
 -- what holds of the bytes of ranks: each has those of its elements, and neither ranks nor bytes are too many
 pub record AreKept (r : Ranked) (stored : List (Vec ℕ)) : Type 0 where
   pub few : length stored ≤ 1024
   pub small : bytes_of r (length stored) ≤ 16777216
-  pub packed : AllByRecursion (λ bytes. ArePacked (elements_at r (pos 0)) bytes.items) stored
+  pub packed : ArePackedRows (elements_at r (pos 0)) stored

@@ -1,11 +1,13 @@
-use Rattle.std.specs.Prelude.{◌≡◌, ℕ, ◌<◌, ℤ, pos, slice_index, slice_index_or, List, length}
+use Rattle.std.specs.Prelude.{◌≡◌, ℕ, ◌<◌, ◌⊎◌, ℤ, pos, slice_index, slice_index_or, List, [], ◌∷◌, length}
 use Rattle.std.specs.List.{All}
 use Rattle.dt_kinds.specs.declared.kind.Kind.{Kind}
 use Rattle.dt_kinds.specs.Bytes.{AreBytes}
 use Rattle.dt_map.specs.declared.entry.Entry.{Entry}
 use Rattle.dt_map.specs.Elements.{IsByteOf}
 use Rattle.dt_map.specs.Typemap.{Marked}
+use Rattle.dt_ops.specs.Bracketing.{IsBracketing}
 use Rattle.dt_ops.specs.Laws.{GivesWords}
+use Rattle.dt_reduce.specs.Merges.{Bracket, ShowsAt, merged}
 use Rattle.dt_reduce.specs.Plan.{CanReduce, reduction_of}
 use Rattle.dt_reduce.specs.Reduced.{word_at, reduced}
 
@@ -20,3 +22,17 @@ WordsAreJoined =
     → ((k : ℕ) (d : Entry) → k < length r.target → let f = slice_index_or r.target k d in
     word_at new f ≡ join f.kind (word_at source (slice_index_or r.source k d)) (word_at target f))
     × ((x : ℕ) → All (λ f. ¬ IsByteOf (pos x) f) r.target → slice_index new x ≡ slice_index target x)
+
+-- merges that bracket rows leave one, which is a bracketing of them
+abbrev pub MergesAreBracketings : Type 0
+MergesAreBracketings =
+    (op : List ℕ → List ℕ → List ℕ) (rows : List (List ℕ)) (merges : List ℕ) → Bracket (length rows) merges
+    → (row : List ℕ) × (merged op merges rows ≡ row ∷ []) × IsBracketing op rows row
+
+-- merges bracket rows, of which there is one at least, or it shows at a place that they don't: never both, and at one place alone
+abbrev pub MergesHaveOneAnswer : Type 0
+MergesHaveOneAnswer =
+    (n : ℕ) (merges : List ℕ) → 0 < n
+    → (Bracket n merges ⊎ ((at : ℕ) × ShowsAt n merges at))
+    × ((at : ℕ) → ShowsAt n merges at → ¬ Bracket n merges)
+    × ((at other : ℕ) → ShowsAt n merges at → ShowsAt n merges other → at ≡ other)

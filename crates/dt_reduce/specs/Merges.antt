@@ -26,6 +26,12 @@ pub record Bracket (n : ℕ) (merges : List ℕ) : Type 0 where
 abbrev pub turns : ℕ → List ℕ → ℕ
 turns n merges = min (length merges) (n - 1)
 
+-- the first member that isn't good, of so many
+pub record IsFirstBad (n : ℕ) (merges : List ℕ) (turns at : ℕ) : Type 0 where
+  pub before : (i : ℕ) → i < at → IsGood n merges i
+  pub within : at < turns
+  pub here : ¬ IsGood n merges at
+
 -- merges don't bracket n rows, and this shows at a place: of the members that can have a turn it is that of the first which isn't good;
 -- where all are good, there are too few or too many members, and it is behind those
 pub record ShowsAt (n : ℕ) (merges : List ℕ) (at : ℕ) : Type 0 where

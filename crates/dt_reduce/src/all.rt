@@ -1,48 +1,27 @@
 //! Reduction of all ranks.
-ghost use Rattle.std.specs.Prelude.{◌≡◌, ◌≤◌, IfErr, IfOk, length};
+ghost use Rattle.std.specs.Prelude.{◌≡◌, ◌≤◌, [], IfErr, IfOk, length};
+ghost use Rattle.dt_kinds.specs.declared.kind.Rep.TheVariants.{Native};
+ghost use Rattle.dt_map.specs.Setting.{set_each};
 ghost use Rattle.dt_reduce.specs.Folded.{folded};
 ghost use Rattle.dt_reduce.specs.Ranks.{without_ranks, elements_at, CanReduceAll, AreNotReduced};
+ghost use Rattle.dt_unpack.specs.Session.{total_of, placed};
 
 use crate::fault::AllFault;
 use crate::merges::bad_merge;
-use crate::pairs::Pairs;
 use crate::ranks::Ranks;
-use dt_kinds::Rep;
 use dt_ops::{Call, Law, StoredOp};
-use dt_unpack::{UnpackFault, UnpackSession};
+use dt_unpack::UnpackSession;
 use std::alloc::Global;
 
-/// A session that sets the elements of a buffer.
-fn target(
-    alloc: Global,
-    ranks: &Ranks,
-    origin: i64,
-    len: usize,
-) -> Result<UnpackSession, AllFault> {
-    match UnpackSession::begin(alloc, &ranks.ty, ranks.count, Rep::Native, origin, len) {
-        Ok(session) => Ok(session),
-        Err(UnpackFault::Outside) => Err(AllFault::Outside),
-        Err(UnpackFault::Overlap) => Err(AllFault::Overlap),
-        Err(UnpackFault::NoMemory) => Err(AllFault::NoMemory),
-    }
-}
-
-/// Joins the rows of ranks in the sequence of the merges, and answers the one that is left.
-fn join_ranks<L: Law, F: Call>(
-    op: &StoredOp<L, F>,
-    pairs: &mut Pairs,
-    rows: &mut Vec<Vec<u8>>,
-    merges: &[u32],
-) {
-    'merges: for merge in merges {
-        let place = *merge as usize;
-        let first = rows.remove(place);
-        pairs.join_packed(op, &first, &mut rows[place]);
-    }
-}
-
-/// Sets the elements of a buffer to packed bytes, and answers how many these are.
-fn set_all(session: &mut UnpackSession, packed: &[u8], into: &mut [u8]) -> u64 {
+/// Sets all elements of a buffer to packed bytes, and answers how many these are.
+fn set_all(session: &mut UnpackSession, packed: &[u8], into: &mut [u8]) -> u64
+    requires native { session.old.rep ≡ Native }
+    requires start { (session.old.given ≡ 0) × (session.old.held ≡ []) }
+    requires buffer { length into.old ≡ session.old.buf_len }
+    requires all { length packed.now ≡ total_of session.old }
+    ensures bytes { into.new ≡ set_each Native (placed session.old) into.old packed.now }
+    ensures number { result ≡ length session.old.elements }
+{
     match session.give(into, packed) {
         Ok(given) => given.elements,
         Err(_) => unreachable!(),
@@ -72,25 +51,15 @@ pub fn reduce_all<L: Law, F: Call>(
     ensures refused { IfErr result (AreNotReduced ranks.old merges.now origin (length into.old)) }
     ensures unchanged { IfErr result (λ _. (ranks.new ≡ ranks.old) × (into.new ≡ into.old)) }
 {
-    if ranks.len() == 0 {
+    let len = ranks.len();
+    if len == 0 {
         return Err(AllFault::Empty);
     }
-    if let Some(at) = bad_merge(merges, ranks.len()) {
+    if let Some(at) = bad_merge(merges, len) {
         return Err(AllFault::BadMerge { at });
     }
-    let mut session = target(alloc, ranks, origin, into.len())?;
-    let mut pairs = Pairs::new(
-        alloc,
-        &ranks.ty,
-        ranks.count,
-        origin,
-        into.len(),
-        origin,
-        into.len(),
-    )?;
-    join_ranks(op, &mut pairs, &mut ranks.rows, merges);
-    match ranks.rows.pop() {
-        Some(row) => Ok(set_all(&mut session, &row, into)),
-        None => unreachable!(),
-    }
+    let mut session = ranks.target(alloc, origin, into.len())?;
+    let mut pairs = ranks.pairs(alloc, origin, into.len())?;
+    let row = ranks.join_all(op, &mut pairs, merges);
+    Ok(set_all(&mut session, &row, into))
 }

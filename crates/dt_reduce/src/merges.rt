@@ -1,9 +1,8 @@
 //! Merges of rows: which bracket them, and those by halves.
-ghost use Rattle.std.specs.Prelude.{◌≡◌, ◌<◌, ◌≤◌, ◌++◌, IfNone, IfSome, IfOk, OnOk};
+ghost use Rattle.std.specs.Prelude.{◌≡◌, ℕ, ◌<◌, ◌≤◌, ◌++◌, IfNone, IfSome, IfOk, OnOk, length};
 ghost use Rattle.dt_offsets.specs.Offsets.{below};
-ghost use Rattle.dt_reduce.specs.Merges.{AreHalves, Bracket, ShowsAt, IsGood, turns};
+ghost use Rattle.dt_reduce.specs.Merges.{AreHalves, Bracket, ShowsAt, IsGood, IsFirstBad};
 
-use crate::ranks::RANKS_MAX;
 use dt_kinds::NoMemory;
 use std::alloc::Global;
 
@@ -36,7 +35,12 @@ pub fn halves(alloc: Global, n: u32) -> Result<Vec<u32>, NoMemory>
 }
 
 /// The first member that isn't good, of so many from the first on.
-fn first_bad(merges: &[u32], rows: usize, turns: usize) -> Option<usize> {
+fn first_bad(merges: &[u32], rows: usize, turns: usize) -> Option<usize>
+    requires members { turns ≤ length merges.now }
+    requires rows { turns < rows }
+    ensures good { IfNone result ((i : ℕ) → i < turns → IsGood rows merges.now i) }
+    ensures bad { IfSome result (IsFirstBad rows merges.now turns) }
+{
     'members: for i in 0..turns {
         if merges[i] as usize + 1 >= rows - i {
             return Some(i);

@@ -1,6 +1,9 @@
 //! The elements of both sides of a reduction.
 ghost use Rattle.std.specs.Prelude.{◌≡◌, ◌↔◌, ◌*◌, ◌<◌, ◌≤◌, ◌^◌, IsTrue, IsNone, IfNone, IfSome, IfOk, pos, length};
+ghost use Rattle.dt_kinds.specs.declared.kind.Rep.TheVariants.{Native};
 ghost use Rattle.dt_map.specs.Elements.{elements, are_inside, Overlaps};
+ghost use Rattle.dt_reduce.specs.Folded.{kinds_of};
+ghost use Rattle.dt_reduce.specs.Kept.{joined_packed};
 ghost use Rattle.dt_reduce.specs.Paired.{after, at_count, source_of, target_of, AreNextRows};
 ghost use Rattle.dt_map.specs.Packed.{total};
 ghost use Rattle.dt_reduce.specs.Reduced.{reduced};
@@ -138,18 +141,18 @@ impl Pairs {
         }
     }
 
-    /// How many packed bytes the elements have that were joined.
-    fn passed(&self) -> u64 {
-        self.cursor.position()
-    }
-
     /// Joins the words of packed bytes of all elements with those of others, from the first on.
     pub fn join_packed<L: Law, F: Call>(
         &mut self,
         op: &StoredOp<L, F>,
         source: &[u8],
         target: &mut [u8],
-    ) {
+    )
+        requires source { length source.now ≡ total Native self.old.elements }
+        requires target { length target.old ≡ total Native self.old.elements }
+        ensures row { target.new ≡ joined_packed L.join (kinds_of self.old.elements) source.now target.old }
+        ensures passed { self.new ≡ at_count self.old (length self.old.elements) }
+    {
         self.rewind();
         let mut at = 0;
         'rows: while let Some(rows) = self.next_rows() {

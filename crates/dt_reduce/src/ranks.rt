@@ -1,13 +1,22 @@
 //! The ranks of a reduction.
-ghost use Rattle.std.specs.Prelude.{◌≡◌, ◌≤◌, IfErr, IfOk, length};
-ghost use Rattle.dt_reduce.specs.Ranks.{without_ranks, with_rank, CanAdd, IsNotAdded};
+ghost use Rattle.std.specs.Prelude.{◌≡◌, ◌+◌, ◌<◌, ◌≤◌, ◌↔◌, IsTrue, IfErr, IfOk, pos, length};
+ghost use Rattle.dt_kinds.specs.declared.kind.Rep.TheVariants.{Native};
+ghost use Rattle.dt_map.specs.Elements.{Overlaps};
+ghost use Rattle.dt_reduce.specs.Folded.{kinds_of, joined_row, folded_bytes};
+ghost use Rattle.dt_reduce.specs.Kept.{rows_of, ArePackedRows};
+ghost use Rattle.dt_reduce.specs.Merges.{Bracket, merged};
+ghost use Rattle.dt_reduce.specs.Ranks.{without_ranks, elements_at, with_rank, bytes_of, AreInside, CanAdd, IsNotAdded, IsNoTarget};
 ghost use Rattle.dt_type.specs.Datatype.{typemap_of};
+ghost use Rattle.dt_unpack.specs.Session.{opened, placed};
 
-use crate::fault::RanksFault;
+use crate::fault::{AllFault, RanksFault};
+use crate::pairs::Pairs;
 use dt_elems::{packed_size, span_inside};
 use dt_kinds::{NoMemory, Rep};
+use dt_ops::{Call, Law, StoredOp};
 use dt_pack::packed_bytes;
 use dt_type::Datatype;
+use dt_unpack::{UnpackFault, UnpackSession};
 use std::alloc::Global;
 use std::marker::Model;
 
@@ -21,9 +30,9 @@ pub const BYTES_MAX: usize = 1 << 24;
 #[derive(Drop)]
 pub struct Ranks {
     alloc: Global,
-    pub(crate) ty: Datatype,
-    pub(crate) count: u32,
-    pub(crate) rows: Vec<Vec<u8>>,
+    ty: Datatype,
+    count: u32,
+    rows: Vec<Vec<u8>>,
 }
 
 impl Model for Ranks {
@@ -60,7 +69,9 @@ impl Ranks {
     }
 
     /// Whether one rank more would have too many bytes.
-    fn is_too_large(&self) -> bool {
+    fn is_too_large(&self) -> bool
+        ensures { IsTrue result ↔ (16777216 < bytes_of self.now (length self.now.rows + 1)) }
+    {
         let number = self.rows.len() as u128 + 1;
         packed_size(&self.ty, Rep::Native, self.count).saturating_mul(number) > BYTES_MAX as u128
     }
@@ -88,5 +99,74 @@ impl Ranks {
         let row = packed_bytes(self.alloc, &self.ty, Rep::Native, self.count, origin, buf)?;
         self.rows.push(row)?;
         Ok(())
+    }
+
+    /// A session that sets the elements of a buffer, where the operation begins at an origin.
+    pub(crate) fn target(
+        &self,
+        alloc: Global,
+        origin: i64,
+        len: usize,
+    ) -> Result<UnpackSession, AllFault>
+        requires { len ≤ 16777216 }
+        ensures session { IfOk result (λ session. session ≡ opened self.now.typemap self.now.count Native origin len) }
+        ensures placed { IfOk result (λ session. placed session ≡ elements_at self.now origin) }
+        ensures possible { IfOk result (λ _. AreInside self.now origin len × ¬ Overlaps (elements_at self.now origin)) }
+        ensures refused { IfErr result (IsNoTarget self.now origin len) }
+    {
+        match UnpackSession::begin(alloc, &self.ty, self.count, Rep::Native, origin, len) {
+            Ok(session) => Ok(session),
+            Err(UnpackFault::Outside) => Err(AllFault::Outside),
+            Err(UnpackFault::Overlap) => Err(AllFault::Overlap),
+            Err(UnpackFault::NoMemory) => Err(AllFault::NoMemory),
+        }
+    }
+
+    /// The elements by pairs, to be joined. They lie in a buffer, and don't overlap there.
+    pub(crate) fn pairs(&self, alloc: Global, origin: i64, len: usize) -> Result<Pairs, NoMemory>
+        requires small { len ≤ 16777216 }
+        requires inside { AreInside self.now origin len }
+        requires apart { ¬ Overlaps (elements_at self.now origin) }
+        ensures { IfOk result (λ pairs. pairs.elements ≡ elements_at self.now (pos 0)) }
+    {
+        Pairs::new(alloc, &self.ty, self.count, origin, len, origin, len)
+    }
+
+    /// Joins all ranks, neighbours in the sequence of the merges, and answers the bytes of the row that is left. Then there are no ranks.
+    pub(crate) fn join_all<L: Law, F: Call>(
+        &mut self,
+        op: &StoredOp<L, F>,
+        pairs: &mut Pairs,
+        merges: &[u32],
+    ) -> Vec<u8>
+        requires bracket { Bracket (length self.old.rows) merges.now }
+        requires elements { pairs.old.elements ≡ elements_at self.old (pos 0) }
+        ensures spent { self.new ≡ without_ranks self.old.typemap self.old.count }
+        ensures row { result.items ≡ folded_bytes L.join (elements_at self.old (pos 0)) self.old.rows }
+    {
+        merge_rows(op, pairs, &mut self.rows, merges);
+        match self.rows.pop() {
+            Some(row) => row,
+            None => unreachable!(),
+        }
+    }
+}
+
+/// Joins rows of packed bytes, neighbours in the sequence of the merges.
+fn merge_rows<L: Law, F: Call>(
+    op: &StoredOp<L, F>,
+    pairs: &mut Pairs,
+    rows: &mut Vec<Vec<u8>>,
+    merges: &[u32],
+)
+    requires bracket { Bracket (length rows.old.items) merges.now }
+    requires packed { ArePackedRows pairs.old.elements rows.old.items }
+    ensures rows { rows_of (kinds_of pairs.old.elements) rows.new.items ≡ merged (joined_row L.join (kinds_of pairs.old.elements)) merges.now (rows_of (kinds_of pairs.old.elements) rows.old.items) }
+    ensures packed { ArePackedRows pairs.old.elements rows.new.items }
+{
+    'merges: for merge in merges {
+        let place = *merge as usize;
+        let first = rows.remove(place);
+        pairs.join_packed(op, &first, &mut rows[place]);
     }
 }
