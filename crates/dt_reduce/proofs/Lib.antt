@@ -1,12 +1,14 @@
 mod Answering
 pub mod Apart
 pub mod Boundary
+pub mod Columns
 pub mod Gathered
 mod Halving
 pub mod Joining
 pub mod Merging
 pub mod Planning
 pub mod Reducing
+pub mod Rowing
 pub mod Uniform
 pub mod Walking
 pub mod WordLaw

@@ -1,12 +1,13 @@
 -- The words of several ranks that are joined in the order of the ranks, element by element (MPI 4.1, section 6.9).
 use Rattle.std.specs.Prelude.{ℕ, unwrap_or, List, [], ◌∷◌, ◌++◌, map}
-use Rattle.std.specs.List.{reduce}
+use Rattle.std.specs.List.{AllZip, reduce}
 use Rattle.byteorder.specs.Endian.{little_bytes}
 use Rattle.dt_kinds.specs.declared.kind.Kind.{Kind}
 use Rattle.dt_kinds.specs.declared.kind.Rep.TheVariants.{Native}
 use Rattle.dt_kinds.specs.Kind.{native_size}
 use Rattle.dt_map.specs.declared.entry.Entry.{Entry}
 use Rattle.dt_map.specs.Setting.{set_each}
+use Rattle.dt_ops.specs.Word.{IsWord}
 use Rattle.dt_reduce.specs.Reduced.{word_at}
 
 -- the kinds of elements
@@ -16,6 +17,10 @@ kinds_of es = map (λ e. e.kind) es
 -- the words of elements in a buffer: a row
 abbrev pub words_of : List Entry → List ℕ → List ℕ
 words_of es buffer = map (word_at buffer) es
+
+-- a row of words of such kinds
+abbrev pub AreWords : List Kind → List ℕ → Type 0
+AreWords kinds words = AllZip IsWord kinds words
 
 -- what two rows of words of such kinds are joined to, word by word
 abbrev pub joined_row : (Kind → ℕ → ℕ → ℕ) → List Kind → List ℕ → List ℕ → List ℕ

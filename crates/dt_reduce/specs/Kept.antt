@@ -32,9 +32,9 @@ abbrev pub ranked_of : Marked → ℕ → List (Vec ℕ) → Ranked
 ranked_of m count stored = record { typemap = m; count = count; rows = rows_of (kinds_of (elements m count (pos 0))) stored }
 
 -- packed bytes of elements
-pub record ArePacked (es : List Entry) (bytes : List ℕ) : Type 0 where
-  pub all : length bytes ≡ total Native es
-  pub bytes : AreBytes bytes
+pub record ArePacked (es : List Entry) (stored : List ℕ) : Type 0 where
+  pub all : length stored ≡ total Native es
+  pub bytes : AreBytes stored
 
 abbrev pub ArePackedRows : List Entry → List (Vec ℕ) → Type 0
 ArePackedRows es stored = AllByRecursion (λ bytes. ArePacked es bytes.items) stored

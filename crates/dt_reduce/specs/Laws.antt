@@ -1,12 +1,13 @@
 use Rattle.std.specs.Prelude.{◌≡◌, ℕ, ◌<◌, ◌⊎◌, ℤ, pos, slice_index, slice_index_or, List, [], ◌∷◌, length}
-use Rattle.std.specs.List.{All}
+use Rattle.std.specs.List.{All, AllByRecursion}
 use Rattle.dt_kinds.specs.declared.kind.Kind.{Kind}
 use Rattle.dt_kinds.specs.Bytes.{AreBytes}
 use Rattle.dt_map.specs.declared.entry.Entry.{Entry}
 use Rattle.dt_map.specs.Elements.{IsByteOf}
 use Rattle.dt_map.specs.Typemap.{Marked}
 use Rattle.dt_ops.specs.Bracketing.{IsBracketing}
-use Rattle.dt_ops.specs.Laws.{GivesWords}
+use Rattle.dt_ops.specs.Laws.{GivesWords, IsAssociative}
+use Rattle.dt_reduce.specs.Folded.{AreWords, joined_row, folded_row}
 use Rattle.dt_reduce.specs.Merges.{Bracket, ShowsAt, merged}
 use Rattle.dt_reduce.specs.Plan.{CanReduce, reduction_of}
 use Rattle.dt_reduce.specs.Reduced.{word_at, reduced}
@@ -36,3 +37,9 @@ MergesHaveOneAnswer =
     → (Bracket n merges ⊎ ((at : ℕ) × ShowsAt n merges at))
     × ((at : ℕ) → ShowsAt n merges at → ¬ Bracket n merges)
     × ((at other : ℕ) → ShowsAt n merges at → ShowsAt n merges other → at ≡ other)
+
+-- merges that bracket rows of words leave what the rows are joined to from the first on
+abbrev pub MergesAreFolded : Type 0
+MergesAreFolded =
+    (join : Kind → ℕ → ℕ → ℕ) (kinds : List Kind) (rows : List (List ℕ)) (merges : List ℕ) → GivesWords join → IsAssociative join
+    → AllByRecursion (AreWords kinds) rows → Bracket (length rows) merges → merged (joined_row join kinds) merges rows ≡ folded_row join kinds rows ∷ []

@@ -1,5 +1,5 @@
 //! Laws of reductions, stated over their definitions. The functions do nothing.
-ghost use Rattle.dt_reduce.specs.Laws.{MergesAreBracketings, MergesHaveOneAnswer, WordsAreJoined};
+ghost use Rattle.dt_reduce.specs.Laws.{MergesAreBracketings, MergesAreFolded, MergesHaveOneAnswer, WordsAreJoined};
 
 /// The word of each element of the target becomes what the source's and its own are joined to; every byte that is no element's stays.
 pub fn words_are_joined()
@@ -14,4 +14,9 @@ pub fn merges_are_bracketings()
 /// Merges bracket rows, or it shows at one place that they don't.
 pub fn merges_have_one_answer()
     ensures { MergesHaveOneAnswer }
+{}
+
+/// Rows of words may be joined in the sequence of any merges that bracket them: each leaves what joining them from the first on does.
+pub fn merges_are_folded()
+    ensures { MergesAreFolded }
 {}
