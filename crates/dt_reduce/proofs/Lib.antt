@@ -1,3 +1,4 @@
+pub mod Adding
 mod Answering
 pub mod Apart
 pub mod Boundary

@@ -33,14 +33,14 @@ total-cons e es = sum_by-cons (λ (f : Entry). packed_size Native f.kind) e es
 pub bytes_behind : (n : ℕ) (bytes : List ℕ) → AreBytes bytes → AreBytes (drop n bytes)
 bytes_behind n bytes are i = subst (λ b. b < 256) (sym (get_or-drop n bytes i 0)) (are (n + i))
 
-bytes_before : (n : ℕ) (bytes : List ℕ) → AreBytes bytes → AreBytes (take n bytes)
+pub bytes_before : (n : ℕ) (bytes : List ℕ) → AreBytes bytes → AreBytes (take n bytes)
 bytes_before n bytes are i =
     elim (cases_lt i n) [
       | inl less ↦ subst (λ b. b < 256) (sym (get_or-take n bytes i 0 less)) (are i)
       | inr past ↦ subst (λ b. b < 256) (sym (get_or_past (take n bytes) i 0 (omega (arith, past, length-take n bytes)))) (omega arith)
     ]
 
-bytes-append : (first last : List ℕ) → AreBytes first → AreBytes last → AreBytes (first ++ last)
+pub bytes-append : (first last : List ℕ) → AreBytes first → AreBytes last → AreBytes (first ++ last)
 bytes-append first last are more i =
     elim (cases_lt i (length first)) [
       | inl less ↦ subst (λ b. b < 256) (sym (get_or_append_left first last 0 i less)) (are i)
