@@ -7,6 +7,7 @@ pub mod Gathered
 mod Halving
 pub mod Joining
 pub mod Merging
+pub mod PackedRows
 pub mod Planning
 pub mod Reducing
 pub mod Rowing

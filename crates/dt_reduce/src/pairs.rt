@@ -150,6 +150,7 @@ impl Pairs {
     )
         requires source { length source.now ≡ total Native self.old.elements }
         requires target { length target.old ≡ total Native self.old.elements }
+        requires near { length target.old < 2 ^ 63 }
         ensures row { target.new ≡ joined_packed L.join (kinds_of self.old.elements) source.now target.old }
         ensures passed { self.new ≡ at_count self.old (length self.old.elements) }
     {
