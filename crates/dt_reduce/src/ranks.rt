@@ -1,7 +1,8 @@
 //! The ranks of a reduction.
-ghost use Rattle.std.specs.Prelude.{◌≡◌, ◌+◌, ◌<◌, ◌≤◌, ◌↔◌, IsTrue, IfErr, IfOk, pos, length};
+ghost use Rattle.std.specs.Prelude.{◌≡◌, ◌+◌, ◌^◌, ◌<◌, ◌≤◌, ◌↔◌, IsTrue, IfErr, IfOk, pos, length};
 ghost use Rattle.dt_kinds.specs.declared.kind.Rep.TheVariants.{Native};
 ghost use Rattle.dt_map.specs.Elements.{Overlaps};
+ghost use Rattle.dt_map.specs.Packed.{total};
 ghost use Rattle.dt_reduce.specs.Folded.{kinds_of, joined_row, folded_bytes};
 ghost use Rattle.dt_reduce.specs.Kept.{rows_of, ArePackedRows};
 ghost use Rattle.dt_reduce.specs.Merges.{Bracket, merged};
@@ -161,9 +162,11 @@ fn merge_rows<L: Law, F: Call>(
 )
     requires bracket { Bracket (length rows.old.items) merges.now }
     requires packed { ArePackedRows pairs.old.elements rows.old.items }
+    requires near { total Native pairs.old.elements < 2 ^ 63 }
     ensures rows { rows_of (kinds_of pairs.old.elements) rows.new.items ≡ merged (joined_row L.join (kinds_of pairs.old.elements)) merges.now (rows_of (kinds_of pairs.old.elements) rows.old.items) }
     ensures packed { ArePackedRows pairs.old.elements rows.new.items }
 {
+    L::holds();
     'merges: for merge in merges {
         let place = *merge as usize;
         let first = rows.remove(place);
