@@ -11,6 +11,7 @@ pub mod PackedRows
 pub mod Planning
 pub mod Reducing
 pub mod Rowing
+pub mod Setting
 pub mod Storing
 pub mod Uniform
 pub mod Walking

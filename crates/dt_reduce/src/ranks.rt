@@ -145,6 +145,7 @@ impl Ranks {
         ensures spent { self.new ≡ without_ranks self.old.typemap self.old.count }
         ensures row { result.items ≡ folded_bytes L.join (elements_at self.old (pos 0)) self.old.rows }
     {
+        L::holds();
         merge_rows(op, pairs, &mut self.rows, merges);
         match self.rows.pop() {
             Some(row) => row,
