@@ -6,6 +6,7 @@ pub mod Columns
 pub mod Gathered
 mod Halving
 pub mod Joining
+pub mod Leaving
 pub mod Merging
 pub mod PackedRows
 pub mod Planning
