@@ -69,6 +69,11 @@ module _ (join : Kind → ℕ → ℕ → ℕ) (gives : GivesWords join) (associ
     pub none_left : front ≡ []
     none_left = (last_alone next front row pop one_left).none
 
+    pub length_left : ArePackedRows es next → length row.items ≡ total Native es
+    length_left all =
+        let whole : ArePackedRows es (row ∷ []) = subst (ArePackedRows es) (last_alone next front row pop one_left).alone all in
+        whole.0.all
+
     pub row_left : ArePackedRows es next → row.items ≡ folded_bytes join es (rows_of kinds stored)
     row_left all =
         let last = (last_alone next front row pop one_left).alone in

@@ -144,6 +144,7 @@ impl Ranks {
         requires elements { pairs.old.elements ≡ elements_at self.old (pos 0) }
         ensures spent { self.new ≡ without_ranks self.old.typemap self.old.count }
         ensures row { result.items ≡ folded_bytes L.join (elements_at self.old (pos 0)) self.old.rows }
+        ensures all { length result.items ≡ total Native (elements_at self.old (pos 0)) }
     {
         L::holds();
         merge_rows(op, pairs, &mut self.rows, merges);
