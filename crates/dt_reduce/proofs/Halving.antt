@@ -1,9 +1,10 @@
 -- Merges by halves bracket the rows, and so do merges at the first place.
-use Rattle.std.proofs.Common.{◌≡◌, ℕ, ◌+◌, ◌-◌, ◌/◌, ◌<◌, inl, inr, List, [], ◌∷◌, ◌++◌, length, get_or, sym, ap, subst, ◌∙◌, arith, length-append, append-nil}
+use Rattle.std.proofs.Common.{◌≡◌, ℕ, zero, suc, ◌+◌, ◌-◌, ◌/◌, ◌<◌, inl, inr, List, [], ◌∷◌, ◌++◌, length, get_or, replicate, refl, sym, ap, subst, ◌∙◌, arith, length-append, append-nil}
 use Rattle.std.proofs.lemmas.Bool.{cases_lt}
-use Rattle.std.proofs.lemmas.List.{append_assoc, get_or_append_left, get_or-append_right}
+use Rattle.std.proofs.lemmas.List.{append_assoc, get_or_append_left, get_or-append_right, length-replicate}
 use Rattle.dt_map.proofs.Seats.{length-below, get_or-below}
 use Rattle.dt_offsets.specs.Offsets.{below}
+use Rattle.dt_reduce.specs.Laws.{ZerosBracket}
 use Rattle.dt_reduce.specs.Merges.{AreHalves, one, more, Bracket, IsGood}
 
 -- the pairs of neighbours first, and then merges of what is left
@@ -38,3 +39,18 @@ next_round n left merges next missing some is rest later =
 -- where one row is left, no merges are missing
 pub none_missing : (n left : ℕ) (merges : List ℕ) → ((rest : List ℕ) → AreHalves left rest → AreHalves n (merges ++ rest)) → left ≡ 1 → AreHalves n merges
 none_missing n left merges missing is = subst (AreHalves n) (append-nil merges) (missing [] (subst (λ k. AreHalves k []) (sym is) one))
+
+same_at : (x n i : ℕ) → get_or (replicate n x) i x ≡ x
+same_at x zero i = refl
+same_at x (suc n) zero = refl
+same_at x (suc n) (suc i) = same_at x n i
+
+-- merges at the first place, one less than there are rows
+pub zeros_bracket : ZerosBracket
+zeros_bracket n some =
+    let zeros : List ℕ = replicate (n - 1) 0 in
+    let long : length zeros ≡ n - 1 = length-replicate (n - 1) 0 in
+    record {
+      count = omega (arith, some, long);
+      good = λ i less. let at = same_at 0 (n - 1) i in omega (arith, at, less, long);
+    }

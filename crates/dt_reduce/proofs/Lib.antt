@@ -2,6 +2,7 @@ pub mod Adding
 mod Answering
 pub mod Apart
 pub mod Boundary
+mod Column
 pub mod Columns
 pub mod Gathered
 mod Halving

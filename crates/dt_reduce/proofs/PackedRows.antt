@@ -24,7 +24,7 @@ use Rattle.dt_rows.proofs.Filling.{last_written}
 use Rattle.dt_rows.proofs.Packing.{some_elements}
 use Rattle.dt_rows.proofs.SettingRows.{drop_none, two_pieces}
 
-total-cons : (e : Entry) (es : List Entry) → total Native (e ∷ es) ≡ native_size e.kind + total Native es
+pub total-cons : (e : Entry) (es : List Entry) → total Native (e ∷ es) ≡ native_size e.kind + total Native es
 total-cons e es = sum_by-cons (λ (f : Entry). packed_size Native f.kind) e es
 
 -- the bytes of elements of one kind
