@@ -4,7 +4,6 @@ use Rattle.std.proofs.lemmas.Bool.{cases_lt}
 use Rattle.std.proofs.lemmas.List.{map-append, length-map}
 use Rattle.std.proofs.lemmas.Nat.{mul-le}
 use Rattle.std.specs.Global.{Vec}
-use Rattle.std.specs.List.{AllByRecursion}
 use Rattle.dt_kinds.specs.Bytes.{AreBytes}
 use Rattle.dt_kinds.specs.declared.kind.Rep.TheVariants.{Native}
 use Rattle.dt_kinds.specs.Kind.{native_size}

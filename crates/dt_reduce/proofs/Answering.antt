@@ -1,5 +1,5 @@
 -- Merges bracket rows, or it shows at one place that they don't.
-use Rattle.std.proofs.Common.{◌≡◌, ℕ, zero, suc, ◌+◌, ◌-◌, ◌<◌, ◌≤◌, ◌⊎◌, inl, inr, List, length, get_or, subst, arith}
+use Rattle.std.proofs.Common.{◌≡◌, ℕ, zero, suc, ◌+◌, ◌-◌, ◌<◌, ◌⊎◌, inl, inr, List, length, get_or, subst, arith}
 use Rattle.std.proofs.lemmas.Bool.{cases_lt, cases_eq}
 use Rattle.dt_reduce.specs.Laws.{MergesHaveOneAnswer}
 use Rattle.dt_reduce.specs.Merges.{Bracket, ShowsAt, IsGood, IsFirstBad, turns}

@@ -1,21 +1,19 @@
 -- Each word of folded rows is what the words of its number are joined to.
-use Rattle.std.specs.Prelude.{slice_index, slice_index_or}
-use Rattle.std.proofs.Common.{◌≡◌, Option, Some, ℕ, zero, suc, ◌+◌, ◌-◌, ◌<◌, ◌≤◌, true, ℤ, pos, nat_abs, List, [], ◌∷◌, ◌++◌, map, take, drop, length, get_or, refl, sym, ap, subst, ◌∙◌, arith, append-nil, unwrap_or}
+use Rattle.std.proofs.Common.{◌≡◌, Some, ℕ, zero, suc, ◌+◌, ◌<◌, ◌≤◌, List, [], ◌∷◌, ◌++◌, map, take, drop, length, get_or, refl, sym, ap, ◌∙◌, arith, append-nil}
 use Rattle.std.proofs.Math.Seq.{drop-append-add}
 use Rattle.std.proofs.lemmas.List.{take_at}
-use Rattle.std.specs.List.{All, AllByRecursion, fold, reduce}
+use Rattle.std.specs.List.{AllByRecursion, fold}
 use Rattle.byteorder.specs.Endian.{little_number, little_bytes}
 use Rattle.byteorder.specs.Numbers.{length-bytes_low_first, little_number-reads_back}
 use Rattle.dt_kinds.specs.declared.kind.Kind.{Kind}
 use Rattle.dt_kinds.specs.declared.kind.Rep.TheVariants.{Native}
 use Rattle.dt_kinds.specs.Kind.{native_size}
 use Rattle.dt_map.specs.declared.entry.Entry.{Entry}
-use Rattle.dt_map.specs.Elements.{are_inside, IsByteOf, Overlaps}
 use Rattle.dt_map.specs.Packed.{total}
 use Rattle.dt_map.proofs.Writing.{setting_keeps_the_rest}
 use Rattle.dt_ops.specs.Laws.{GivesWords}
 use Rattle.dt_ops.specs.Word.{IsWord}
-use Rattle.dt_reduce.specs.Folded.{kinds_of, AreWords, joined_row, folded_row, bytes_of_row, folded_bytes, folded}
+use Rattle.dt_reduce.specs.Folded.{kinds_of, AreWords, joined_row, bytes_of_row, folded}
 use Rattle.dt_reduce.specs.Laws.{WordsAreFolded}
 use Rattle.dt_reduce.specs.Reduced.{word_at}
 use Rattle.dt_reduce.proofs.PackedRows.{total-cons}

@@ -1,8 +1,6 @@
 -- What merged rows come to.
-use Rattle.std.proofs.Common.{◌≡◌, Option, Some, ℕ, List, [], ◌∷◌, length, unwrap_or, sym, ap, ◌∙◌}
-use Rattle.std.specs.List.{AllByRecursion, reduce}
-use Rattle.dt_kinds.specs.declared.kind.Kind.{Kind}
-use Rattle.dt_reduce.specs.Folded.{AreWords, joined_row, folded_row}
+use Rattle.std.proofs.Common.{Option, ℕ, List, [], ◌∷◌, unwrap_or, sym, ap, ◌∙◌}
+use Rattle.dt_reduce.specs.Folded.{AreWords, joined_row}
 use Rattle.dt_reduce.specs.Laws.{MergesAreFolded}
 use Rattle.dt_reduce.proofs.Merging.{merges_fold}
 use Rattle.dt_reduce.proofs.Rowing.{rows_are_free}

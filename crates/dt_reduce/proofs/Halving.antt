@@ -1,11 +1,11 @@
 -- Merges by halves bracket the rows, and so do merges at the first place.
-use Rattle.std.proofs.Common.{◌≡◌, ℕ, zero, suc, ◌+◌, ◌-◌, ◌/◌, ◌<◌, inl, inr, List, [], ◌∷◌, ◌++◌, length, get_or, replicate, refl, sym, ap, subst, ◌∙◌, arith, length-append, append-nil}
+use Rattle.std.proofs.Common.{◌≡◌, ℕ, zero, suc, ◌-◌, ◌/◌, ◌<◌, inl, inr, List, [], ◌++◌, length, get_or, replicate, refl, sym, ap, subst, ◌∙◌, arith, length-append, append-nil}
 use Rattle.std.proofs.lemmas.Bool.{cases_lt}
 use Rattle.std.proofs.lemmas.List.{append_assoc, get_or_append_left, get_or-append_right, length-replicate}
 use Rattle.dt_map.proofs.Seats.{length-below, get_or-below}
 use Rattle.dt_offsets.specs.Offsets.{below}
 use Rattle.dt_reduce.specs.Laws.{ZerosBracket}
-use Rattle.dt_reduce.specs.Merges.{AreHalves, one, more, Bracket, IsGood}
+use Rattle.dt_reduce.specs.Merges.{AreHalves, one, more, Bracket}
 
 -- the pairs of neighbours first, and then merges of what is left
 halves_first : (n : ℕ) (rest : List ℕ) → 1 < n → Bracket (n - n / 2) rest → Bracket n (below (n / 2) ++ rest)

@@ -1,5 +1,5 @@
 -- The row that is left of all ranks.
-use Rattle.std.proofs.Common.{◌≡◌, Option, Some, None, ℕ, ◌+◌, ◌*◌, ◌^◌, ◌<◌, ◌≤◌, ℤ, pos, List, [], ◌∷◌, ◌++◌, length, unwrap_or, refl, sym, ap, subst, ◌∙◌, arith, length-append}
+use Rattle.std.proofs.Common.{◌≡◌, ℕ, ◌^◌, ◌<◌, pos, List, [], ◌∷◌, ◌++◌, length, refl, sym, ap, subst, ◌∙◌, arith, length-append}
 use Rattle.std.proofs.lemmas.List.{length-map}
 use Rattle.std.proofs.lemmas.Nat.{mul-le}
 use Rattle.std.specs.Global.{Vec}
@@ -12,9 +12,9 @@ use Rattle.dt_map.specs.Packed.{total}
 use Rattle.dt_map.specs.Typemap.{Marked}
 use Rattle.dt_ops.specs.Laws.{GivesWords, IsAssociative}
 use Rattle.dt_reduce.specs.Folded.{kinds_of, AreWords, joined_row, folded_row, folded_bytes, bytes_of_row}
-use Rattle.dt_reduce.specs.Kept.{row_of, rows_of, ranked_of, ArePacked, ArePackedRows, AreKept}
+use Rattle.dt_reduce.specs.Kept.{row_of, rows_of, ranked_of, ArePackedRows, AreKept}
 use Rattle.dt_reduce.specs.Merges.{Bracket, merged}
-use Rattle.dt_reduce.specs.Ranks.{Ranked, without_ranks, elements_at}
+use Rattle.dt_reduce.specs.Ranks.{Ranked}
 use Rattle.dt_reduce.proofs.Columns.{merges_are_folded}
 use Rattle.dt_reduce.proofs.Rowing.{row_is_words, bytes_come_back}
 

@@ -1,11 +1,11 @@
 -- Rows that are merged come to what they are joined to from the first on, where the operation is associative on them.
-use Rattle.std.proofs.Common.{◌≡◌, Option, Some, ℕ, zero, suc, ◌+◌, ◌-◌, ◌<◌, List, [], ◌∷◌, ◌++◌, take, length, get_or, refl, sym, ap, subst, ◌∙◌, arith, append-nil}
+use Rattle.std.proofs.Common.{◌≡◌, Some, ℕ, zero, suc, ◌+◌, ◌-◌, ◌<◌, List, [], ◌∷◌, ◌++◌, length, refl, sym, subst, arith, append-nil}
 use Rattle.std.proofs.lemmas.List.{append_assoc}
-use Rattle.std.specs.List.{AllByRecursion, fold, reduce}
+use Rattle.std.specs.List.{AllByRecursion, reduce}
 use Rattle.dt_ops.specs.Bracketing.{IsBracketing}
 use Rattle.dt_ops.specs.Bracketing as bracketing
 use Rattle.dt_ops.proofs.Folding.{IsOrderFree, bracketing_is_fold}
-use Rattle.dt_reduce.specs.Merges.{merged_at, merged, Bracket, IsGood}
+use Rattle.dt_reduce.specs.Merges.{merged_at, merged, Bracket}
 
 -- merges whose first member is good, and whose others bracket a row less
 pub bracket_rest : (n k : ℕ) (merges : List ℕ) → Bracket n (k ∷ merges) → (k + 1 < n) × Bracket (n - 1) merges

@@ -1,5 +1,5 @@
 -- Rows of words: joined, written as bytes, and read from them again.
-use Rattle.std.proofs.Common.{◌≡◌, ℕ, zero, suc, ◌+◌, ◌-◌, ◌<◌, ◌≤◌, inl, inr, true, ℤ, pos, List, [], ◌∷◌, ◌++◌, map, take, drop, length, get_or, refl, sym, ap, subst, ◌∙◌, arith, length-append, length-drop}
+use Rattle.std.proofs.Common.{◌≡◌, ℕ, zero, suc, ◌+◌, ◌-◌, ◌<◌, inl, inr, true, ℤ, pos, List, [], ◌∷◌, ◌++◌, take, drop, length, refl, sym, ap, subst, ◌∙◌, arith, length-append, length-drop}
 use Rattle.std.proofs.Math.Nat.{mod-lt}
 use Rattle.std.proofs.lemmas.Bool.{and_parts, cases_lt}
 use Rattle.std.proofs.lemmas.List.{drop_at, get_or-drop, get_or-take, get_or_append_left, get_or-append_right, get_or_past, take-append-drop, length-take, length-take-le}
@@ -17,9 +17,8 @@ use Rattle.dt_kinds.specs.Kind.{native_size, packed_size}
 use Rattle.dt_map.specs.declared.entry.Entry.{Entry}
 use Rattle.dt_map.specs.Elements.{elements, are_inside, lies_inside}
 use Rattle.dt_map.specs.Packed.{bytes_at, packed, total}
-use Rattle.dt_map.specs.Typemap.{Marked, shift, shift_entry}
+use Rattle.dt_map.specs.Typemap.{Marked, shift}
 use Rattle.dt_ops.specs.Laws.{GivesWords, IsAssociative}
-use Rattle.dt_ops.specs.Word.{IsWord}
 use Rattle.dt_ops.proofs.Folding.{IsOrderFree}
 use Rattle.dt_reduce.specs.Folded.{kinds_of, words_of, AreWords, joined_row, bytes_of_row}
 use Rattle.dt_reduce.specs.Kept.{row_of, ArePacked}

@@ -2,12 +2,10 @@
 use Rattle.std.proofs.Common.{◌≡◌, ℕ, ◌+◌, ◌-◌, Bool, true, false, List, [], ◌∷◌, ◌++◌, take, drop, length, refl, sym, ap, subst, ◌∙◌, arith, append-nil}
 use Rattle.std.proofs.lemmas.List.{take_all}
 use Rattle.dt_cursor.specs.Search.{AreHeld}
-use Rattle.dt_kinds.specs.declared.kind.Rep.{Rep}
 use Rattle.dt_kinds.specs.declared.kind.Rep.TheVariants.{Native}
 use Rattle.dt_kinds.proofs.Table.{native_size-pos}
 use Rattle.dt_map.specs.declared.entry.Entry.{Entry}
-use Rattle.dt_map.specs.Packed.{total}
-use Rattle.dt_map.specs.Setting.{done, set_each}
+use Rattle.dt_map.specs.Setting.{set_each}
 use Rattle.dt_map.specs.Typemap.{shift}
 use Rattle.dt_rows.proofs.SettingRows.{drop_none}
 use Rattle.dt_unpack.specs.Session.{Session, placed, total_of, complete, complete_with, completed, buffer_after}

@@ -1,5 +1,5 @@
 -- Packed rows that are merged where they are stored.
-use Rattle.std.proofs.Common.{◌≡◌, ℕ, zero, suc, ◌+◌, ◌<◌, List, [], ◌∷◌, ◌++◌, take, length, get_or, refl, sym, ap, subst, ◌∙◌, arith}
+use Rattle.std.proofs.Common.{◌≡◌, ℕ, zero, suc, ◌+◌, ◌<◌, List, [], ◌∷◌, take, length, get_or, sym, ap, subst, ◌∙◌, arith}
 use Rattle.std.proofs.lemmas.List.{take_more}
 use Rattle.std.specs.Global.{Vec}
 use Rattle.std.specs.List.{remove, slice_set}
@@ -66,7 +66,7 @@ module _ (join : Kind → ℕ → ℕ → ℕ) (gives : GivesWords join) (es : L
       let same : slice_set (remove stored k) k new ≡ slice_set removed k new = ap (λ l. slice_set l k new) (sym gone) in
       subst (AreMerged merges (i + 1) start) same (record {
         rows = m.rows ∙ ap (merged_at (joined_row join kinds) k) are.rows ∙ sym (merged-push (joined_row join kinds) (take i merges) k (rows_of kinds start))
-        ∙ ap (λ l. merged (joined_row join kinds) l (rows_of kinds start)) (sym (take_more merges i 0 less));
+            ∙ ap (λ l. merged (joined_row join kinds) l (rows_of kinds start)) (sym (take_more merges i 0 less));
         packed = m.packed;
         count = omega (arith, rest, count);
       })

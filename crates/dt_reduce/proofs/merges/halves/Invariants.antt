@@ -1,4 +1,4 @@
-use Rattle.std.proofs.Common.{ℕ, ◌-◌, ◌≤◌, ◌++◌, List}
+use Rattle.std.proofs.Common.{ℕ, ◌≤◌, ◌++◌, List}
 use Rattle.dt_reduce.specs.Merges.{AreHalves}
 use Rattle.dt_reduce.proofs.merges.halves.Given as goal
 

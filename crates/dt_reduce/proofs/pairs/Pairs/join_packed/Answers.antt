@@ -1,5 +1,4 @@
-use Rattle.std.proofs.Common.{◌≡◌, ◌+◌, ◌-◌, ◌*◌, ◌++◌, take, drop, length, ap, sym, subst, ◌∙◌, arith, length-drop}
-use Rattle.std.proofs.lemmas.List.{length-take-le}
+use Rattle.std.proofs.Common.{◌≡◌, ◌+◌, ◌-◌, ◌*◌, ◌++◌, take, drop, length, ap, sym, ◌∙◌, arith, length-drop}
 use Rattle.dt_kinds.specs.declared.kind.Rep.TheVariants.{Native}
 use Rattle.dt_kinds.specs.Kind.{native_size}
 use Rattle.dt_map.specs.Packed.{total}
@@ -61,6 +60,6 @@ rows-preserved g c =
       passed = s.passed;
       place = omega (arith, place, here);
       bytes = more ∙ ap (λ d. joined_packed g.L.Law.join (kinds_of (take d a.elements)) source old ++ drop (total Native (take d a.elements)) old) (sym s.done)
-      ∙ ap (λ p. joined_packed g.L.Law.join (kinds_of (take c.next_rows.new.self.done a.elements)) source old ++ drop p old) (let to : total Native (take c.next_rows.new.self.done a.elements) ≡ at + r.rows * r.run.bytes = omega (arith, place, here) in to);
+          ∙ ap (λ p. joined_packed g.L.Law.join (kinds_of (take c.next_rows.new.self.done a.elements)) source old ++ drop p old) (let to : total Native (take c.next_rows.new.self.done a.elements) ≡ at + r.rows * r.run.bytes = omega (arith, place, here) in to);
       within = s.within;
     }

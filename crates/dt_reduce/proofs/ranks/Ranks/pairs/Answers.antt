@@ -1,7 +1,6 @@
-use Rattle.std.proofs.Common.{sym, ap, subst, ◌∙◌}
+use Rattle.std.proofs.Common.{ap, subst, ◌∙◌}
 use Rattle.std.proofs.lemmas.Int.{to_z-of_z}
 use Rattle.std.specs.Int.{w64}
-use mir.Val.{to_z, of_z}
 use Rattle.dt_map.specs.Elements.{elements, Overlaps}
 use Rattle.dt_type.specs.Datatype.{typemap_of}
 use Rattle.dt_reduce.specs.Ranks.{Ranked, elements_at}

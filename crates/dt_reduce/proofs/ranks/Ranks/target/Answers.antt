@@ -1,8 +1,7 @@
-use Rattle.std.proofs.Common.{◌≡◌, Err, true, sym, ap, subst, ◌∙◌, List}
+use Rattle.std.proofs.Common.{◌≡◌, Err, sym, ap, subst, ◌∙◌}
 use Rattle.std.proofs.lemmas.Int.{to_z-of_z}
 use Rattle.std.specs.Int.{w64}
 use mir.Val.{to_z, of_z}
-use Rattle.dt_map.specs.declared.entry.Entry.{Entry}
 use Rattle.dt_map.specs.Elements.{elements, are_inside, Overlaps}
 use Rattle.dt_type.specs.Datatype.{typemap_of}
 use Rattle.dt_reduce.specs.Ranks.{Ranked, elements_at}
