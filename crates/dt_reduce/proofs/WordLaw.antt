@@ -19,6 +19,7 @@ use Rattle.dt_map.specs.declared.entry.Entry.{Entry}
 use Rattle.dt_map.specs.Elements.{elements, are_inside, lies_inside, IsByteOf, Overlaps}
 use Rattle.dt_map.specs.Laws.{image_at}
 use Rattle.dt_map.specs.Packed.{bytes_at, total}
+use Rattle.dt_map.specs.Setting.{set_each}
 use Rattle.dt_map.specs.Typemap.{shift, shift_entry}
 use Rattle.dt_map.proofs.Writing.{setting_keeps_the_rest, setting_sets_each}
 use Rattle.dt_ops.specs.Laws.{GivesWords}
@@ -47,6 +48,26 @@ lies_at : (len : ℕ) (es : List Entry) → are_inside len es ≡ true → (k : 
 lies_at len [] inside k d within = absurd (omega (arith, within))
 lies_at len (e ∷ es) inside zero d within = lies len e (and_parts (lies_inside len e) (are_inside len es) inside).0
 lies_at len (e ∷ es) inside (suc k) d within = lies_at len es (and_parts (lies_inside len e) (are_inside len es) inside).1 k d (omega (arith, within))
+
+-- an element that is set holds its image
+module _ (fs : List Entry) (target images : List ℕ) (apart : Overlaps fs → ⊥) (inside : are_inside (length target) fs ≡ true) (enough : total Native fs ≤ length images) where
+  abbrev set_there : List ℕ
+  set_there = set_each Native fs target images
+
+  pub bytes_are_set : (k : ℕ) (d : Entry) → k < length fs → length (image_at Native fs k (get_or fs k d) images) ≡ native_size (get_or fs k d).kind
+      → bytes_at (set_each Native fs target images) (get_or fs k d) ≡ image_at Native fs k (get_or fs k d) images
+  bytes_are_set k d within wide =
+      let f = get_or fs k d in
+      let there = lies_at (length target) fs inside k d within in
+      let start = there.starts in
+      let at = nat_abs f.disp in
+      let long : length set_there ≡ length target = (setting_keeps_the_rest Native fs target images inside enough).0 in
+      let size = size_there set_there f (subst (λ n. Lies n f) (sym long) there) in
+      same_number_lists (bytes_at set_there f) (image_at Native fs k f images) (size ∙ sym wide) (λ j less_there.
+      let less : j < native_size f.kind = subst (λ n. j < n) size less_there in
+      get_or-take (native_size f.kind) (drop at set_there) j 0 less ∙ get_or-drop at set_there j 0
+      ∙ setting_sets_each Native fs target images inside enough apart k (at + j) d within (omega (arith, ints, start), omega (arith, ints, start, less))
+      ∙ ap (λ i. get_or (image_at Native fs k f images) i 0) (let back : (at + j) - at ≡ j = omega arith in back))
 
 module _ (join : Kind → ℕ → ℕ → ℕ) (source target : List ℕ) where
   -- what the words of the elements of a number are joined to, among the bytes of all
@@ -90,22 +111,6 @@ module _ (join : Kind → ℕ → ℕ → ℕ) (source target : List ℕ) where
     enough : total Native fs ≤ length images
     enough = let all = length-joined join es fs source target same in omega (arith, all)
 
-    bytes_are_set : (k : ℕ) (d : Entry) → k < length fs → bytes_at new (get_or fs k d) ≡ image_at Native fs k (get_or fs k d) images
-    bytes_are_set k d within =
-        let f = get_or fs k d in
-        let there = lies_at (length target) fs inside k d within in
-        let start = there.starts in
-        let at = nat_abs f.disp in
-        let long : length new ≡ length target = (setting_keeps_the_rest Native fs target images inside enough).0 in
-        let size = size_there new f (subst (λ n. Lies n f) (sym long) there) in
-        let image = joined_at es fs k d same within in
-        let wide = ap length image ∙ length-bytes_low_first 0 (native_size f.kind) (join f.kind (word_at source (get_or es k d)) (word_at target f)) in
-        same_number_lists (bytes_at new f) (image_at Native fs k f images) (size ∙ sym wide) (λ j less_there.
-        let less : j < native_size f.kind = subst (λ n. j < n) size less_there in
-        get_or-take (native_size f.kind) (drop at new) j 0 less ∙ get_or-drop at new j 0
-        ∙ setting_sets_each Native fs target images inside enough apart k (at + j) d within (omega (arith, ints, start), omega (arith, ints, start, less))
-        ∙ ap (λ i. get_or (image_at Native fs k f images) i 0) (let back : (at + j) - at ≡ j = omega arith in back))
-
     word_is_joined : (k : ℕ) (d : Entry) → k < length fs → word_at new (get_or fs k d) ≡ join (get_or fs k d).kind (word_at source (get_or es k d)) (word_at target (get_or fs k d))
     word_is_joined k d within =
         let e = get_or es k d in
@@ -115,7 +120,9 @@ module _ (join : Kind → ℕ → ℕ → ℕ) (source target : List ℕ) where
         let kinds : e.kind ≡ f.kind = ap (λ (g : Entry). g.kind) one ∙ sym (ap (λ (g : Entry). g.kind) other) in
         let word = join f.kind (word_at source e) (word_at target f) in
         let fits : IsWord f.kind word = gives f.kind (word_at source e) (word_at target f) (subst (λ k. IsWord k (word_at source e)) kinds (is_word source e bytes)) (is_word target f others) in
-        ap (little_number (native_size f.kind)) (bytes_are_set k d within ∙ joined_at es fs k d same within ∙ sym (append-nil (little_bytes (native_size f.kind) word)))
+        let image = joined_at es fs k d same within in
+        let wide = ap length image ∙ length-bytes_low_first 0 (native_size f.kind) word in
+        ap (little_number (native_size f.kind)) (bytes_are_set fs target images apart inside enough k d within wide ∙ image ∙ sym (append-nil (little_bytes (native_size f.kind) word)))
         ∙ little_number-reads_back (native_size f.kind) word [] fits
 
     rest_is_kept : (p : ℕ) → All (λ f. IsByteOf (pos p) f → ⊥) fs → slice_index new p ≡ slice_index target p

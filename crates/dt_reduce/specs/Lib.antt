@@ -1,5 +1,9 @@
+pub mod Folded
+pub mod Kept
 pub mod Laws
+pub mod Merges
 pub mod Paired
 pub mod Plan
+pub mod Ranks
 pub mod Reduced
 pub mod Words

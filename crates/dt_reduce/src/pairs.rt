@@ -1,6 +1,9 @@
 //! The elements of both sides of a reduction.
 ghost use Rattle.std.specs.Prelude.{◌≡◌, ◌↔◌, ◌*◌, ◌<◌, ◌≤◌, ◌^◌, IsTrue, IsNone, IfNone, IfSome, IfOk, pos, length};
+ghost use Rattle.dt_kinds.specs.declared.kind.Rep.TheVariants.{Native};
 ghost use Rattle.dt_map.specs.Elements.{elements, are_inside, Overlaps};
+ghost use Rattle.dt_reduce.specs.Folded.{kinds_of};
+ghost use Rattle.dt_reduce.specs.Kept.{joined_packed};
 ghost use Rattle.dt_reduce.specs.Paired.{after, at_count, source_of, target_of, AreNextRows};
 ghost use Rattle.dt_map.specs.Packed.{total};
 ghost use Rattle.dt_reduce.specs.Reduced.{reduced};
@@ -8,6 +11,7 @@ ghost use Rattle.dt_rows.specs.Rows.{bytes_in};
 ghost use Rattle.dt_type.specs.Datatype.{typemap_of};
 
 use crate::rows::{NAMED_MAX, join_rows, whole_rows};
+use crate::words::join_words;
 use dt_cursor::{Cursor, Rows};
 use dt_kinds::{NoMemory, Rep};
 use dt_layout::compile;
@@ -134,6 +138,28 @@ impl Pairs {
                 self.target_origin,
                 target,
             );
+        }
+    }
+
+    /// Joins the words of packed bytes of all elements with those of others, from the first on.
+    pub fn join_packed<L: Law, F: Call>(
+        &mut self,
+        op: &StoredOp<L, F>,
+        source: &[u8],
+        target: &mut [u8],
+    )
+        requires source { length source.now ≡ total Native self.old.elements }
+        requires target { length target.old ≡ total Native self.old.elements }
+        requires near { length target.old < 2 ^ 63 }
+        ensures row { target.new ≡ joined_packed L.join (kinds_of self.old.elements) source.now target.old }
+        ensures passed { self.new ≡ at_count self.old (length self.old.elements) }
+    {
+        self.rewind();
+        let mut at = 0;
+        'rows: while let Some(rows) = self.next_rows() {
+            let count = (rows.rows * rows.run.elements) as usize;
+            join_words(op, rows.run.kind, count, &source[at..], &mut target[at..]);
+            at += (rows.rows * rows.run.bytes) as usize;
         }
     }
 }
