@@ -127,6 +127,13 @@ with_given s name opened bytes piece = record {
 abbrev pub without_session : Standing → List ℕ → Standing
 without_session s name = record s { sessions = remove_entry (is_at (slice_cmp nat_cmp name)) s.sessions }
 
+-- a buffer of so many bytes stands under a name, and other bytes in the place of a buffer's
+abbrev pub StandsWith : Standing → List ℕ → ℕ → Type 0
+StandsWith s name len = IsSomeAnd (under name s.buffers) (λ bytes. length bytes ≡ len)
+
+abbrev pub with_bytes : Standing → List ℕ → List ℕ → Standing
+with_bytes s name bytes = record s { buffers = set_value (is_at (slice_cmp nat_cmp name)) s.buffers bytes }
+
 -- a session's buffer stands and has as many bytes as when the session was opened
 abbrev pub IsOver : List (List ℕ × List ℕ) → Opened → Type 0
 IsOver buffers opened = IsSomeAnd (under opened.buffer buffers) (λ bytes. length bytes ≡ buf_len_in opened.session)

@@ -1,13 +1,18 @@
 //! The buffers that stand, and the sessions that are open, by name.
-ghost use Rattle.std.specs.Prelude.{◌≡◌, ℕ, List, OnOk, OnErr, MatchOption, None, Some, is_some, length, min};
+ghost use Rattle.std.specs.Prelude.{◌≡◌, ◌≢◌, ℕ, List, OnOk, OnErr, MatchOption, None, Some, is_some, length, min};
 ghost use Rattle.std.specs.Option.{IsSomeAnd};
+ghost use Rattle.dt_copy.specs.Copied.{copied};
 ghost use Rattle.dt_names.specs.Names.{under, bytes_in};
-ghost use Rattle.dt_sessions.specs.Open.{nothing_stands, packed_in, next_in, opened_at, receipt_in, CanGive, CanSeek, CanTake, with_buffer, with_given, with_opened, with_moved, without_session, IsOver, IsSmall};
+ghost use Rattle.dt_reduce.specs.Reduced.{reduced};
+ghost use Rattle.dt_sessions.specs.Open.{nothing_stands, packed_in, next_in, opened_at, receipt_in, CanGive, CanSeek, CanTake, StandsWith, with_buffer, with_bytes, with_given, with_opened, with_moved, without_session, IsOver, IsSmall};
 ghost use Rattle.dt_sessions.specs.declared.session.Opened.{Opened as OpenedValue};
 
 use crate::session::{Opened, Session};
+use dt_copy::CopyPlan;
 use dt_kinds::NoMemory;
 use dt_names::{Buffer, Buffers};
+use dt_ops::{Call, Law, StoredOp};
+use dt_reduce::ReducePlan;
 use dt_reply::Receipt;
 use dt_script::Name;
 use std::alloc::Global;
@@ -168,6 +173,60 @@ impl Transfers {
         let receipt = opened.session.give(&mut bytes, piece);
         self.buffers.swap(&opened.buffer, Buffer::from_vec(bytes));
         receipt
+    }
+
+    /// Copies the elements of a plan from one buffer to another: those of the source, as it is now, to the places of the target's.
+    /// Nothing else that stands changes, and the plan stays as it was. Answers how many elements these are. It takes no memory.
+    pub fn copy(
+        &mut self,
+        alloc: Global,
+        plan: &mut CopyPlan,
+        source: &Name,
+        target: &Name,
+    ) -> u64
+        requires apart { source.now ≢ target.now }
+        requires source { StandsWith self.old source.now plan.old.source_len }
+        requires target { StandsWith self.old target.now plan.old.target_len }
+        ensures bytes { (from to : List ℕ) → under source.now self.old.buffers ≡ Some from → under target.now self.old.buffers ≡ Some to → self.new ≡ with_bytes self.old target.now (copied plan.old.source plan.old.target from to) }
+        ensures elements { result ≡ length plan.old.source }
+        ensures again { plan.new ≡ plan.old }
+    {
+        let nothing = Buffer::from_vec(Vec::new(alloc));
+        let mut bytes = self.buffers.swap(target, nothing).into_vec();
+        let Some(from) = self.buffers.get(source) else {
+            unreachable!()
+        };
+        let elements = plan.run(from, &mut bytes);
+        self.buffers.swap(target, Buffer::from_vec(bytes));
+        elements
+    }
+
+    /// Reduces the elements of one buffer by those of another: each word of the target becomes what the source's word of the same number
+    /// and it are joined to, as both are now. Nothing else that stands changes, and the plan stays as it was. Answers how many elements
+    /// these are. It takes no memory.
+    pub fn reduce<L: Law, F: Call>(
+        &mut self,
+        alloc: Global,
+        plan: &mut ReducePlan,
+        op: &StoredOp<L, F>,
+        source: &Name,
+        target: &Name,
+    ) -> u64
+        requires apart { source.now ≢ target.now }
+        requires source { StandsWith self.old source.now plan.old.source_len }
+        requires target { StandsWith self.old target.now plan.old.target_len }
+        ensures bytes { (from to : List ℕ) → under source.now self.old.buffers ≡ Some from → under target.now self.old.buffers ≡ Some to → self.new ≡ with_bytes self.old target.now (reduced L.join plan.old.source plan.old.target from to) }
+        ensures elements { result ≡ length plan.old.target }
+        ensures again { plan.new ≡ plan.old }
+    {
+        let nothing = Buffer::from_vec(Vec::new(alloc));
+        let mut bytes = self.buffers.swap(target, nothing).into_vec();
+        let Some(from) = self.buffers.get(source) else {
+            unreachable!()
+        };
+        let elements = plan.run(op, from, &mut bytes);
+        self.buffers.swap(target, Buffer::from_vec(bytes));
+        elements
     }
 
     /// Takes a session away.
