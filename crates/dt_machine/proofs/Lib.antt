@@ -1,6 +1,8 @@
 pub mod Copies
 pub mod Definitions
 pub mod Fills
+pub mod Folds
+pub mod Gathered
 pub mod JoinedGives
 pub mod Joining
 pub mod LeastTrees

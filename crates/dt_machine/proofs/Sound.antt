@@ -5,9 +5,9 @@ use Rattle.std.specs.Cmp.Lexicographic.{slice_cmp}
 use Rattle.std.specs.Map.{set_value}
 use Rattle.std.specs.Option.{is_some, IsSomeAnd}
 use Rattle.std.specs.Ordering.{nat_cmp}
-use Rattle.std.specs.Prelude.{cond, min, IsFalse}
-use Rattle.std.specs.List.{AllByRecursion}
-use Rattle.std.proofs.lemmas.Bool.{cases_lt}
+use Rattle.std.specs.Prelude.{cond, min, IsFalse, IsTrue}
+use Rattle.std.specs.List.{AllByRecursion, list_any}
+use Rattle.std.proofs.lemmas.Bool.{cases_lt, false_from_ne_true}
 use Rattle.dt_copy.specs.Copied.{copied}
 use Rattle.dt_copy.specs.Plan.{AreInside}
 use Rattle.dt_reduce.specs.Plan as reduction
@@ -34,12 +34,13 @@ use Rattle.dt_unpack.proofs.Pieces.{between_any, given_within}
 use Rattle.dt_names.specs.declared.kept.Kept.{Kept}
 use Rattle.dt_names.specs.Names.{bytes_of}
 use Rattle.dt_machine.specs.Pieces.{IsSound, IsSoundIn, SoundIsKept}
-use Rattle.dt_machine.specs.Refusal.{elements_of, IsAllowed, IsOneOutside, IsOutside, IsSending, IsTruncated}
+use Rattle.dt_machine.specs.Refusal.{elements_of, IsAllowed, IsOutside, lies_outside, IsSending, IsTruncated}
 use Rattle.dt_machine.specs.State.{State, type_of, buffer_of, session_of, with_committed, with_count}
 use Rattle.dt_machine.specs.Step.{begun, receiving, taken_by, with_piece, Performs, Obeys, Meets}
 use Rattle.dt_machine.specs.Joins.{join_of}
 use Rattle.dt_machine.specs.Sides.{side, copy_between, Differ}
 use Rattle.dt_machine.proofs.Copies.{of_copy}
+use Rattle.dt_machine.proofs.Gathered.{all_inside}
 use Rattle.dt_machine.proofs.Reductions.{of_reduction}
 use Rattle.dt_machine.proofs.Rows.{allowed_is_clear, some_and}
 use Rattle.dt_machine.proofs.Settled.{can_copy, length_copied, length_folded, length_reduced}
@@ -239,10 +240,9 @@ performs_sound (Reduceall op how count ty origin target ranks) s t reply sound m
     let clear = (allowed_is_clear s (Reduceall op how count ty origin target ranks)).0 may in
     let fs = elements_of kept count origin in
     let into = folded (join_of op) fs (map (words_of fs) buffers) held in
-    let inside : ¬ (are_inside (length held) fs ≡ false) =
-    λ out. clear.1.1.1.1.0 (some_and (type_of s ty) (λ k. IsOneOutside s (target ∷ ranks) (elements_of k count origin)) kept a
-    (inl (some_and (buffer_of s target) (λ bytes. IsFalse (are_inside (length bytes) fs)) held b out))) in
-    subst IsSound (sym new) (keeps s sound target held b into (length_folded (join_of op) fs buffers held (not_false (are_inside (length held) fs) inside)) (with_count s).totals.commands)
+    let inside = all_inside s fs target ranks held b (false_from_ne_true (list_any (lies_outside s fs) (target ∷ ranks)) (λ out. clear.1.1.1.1.0
+    (some_and (type_of s ty) (λ k. IsTrue (list_any (lies_outside s (elements_of k count origin)) (target ∷ ranks))) kept a out))) in
+    subst IsSound (sym new) (keeps s sound target held b into (length_folded (join_of op) fs buffers held inside.0) (with_count s).totals.commands)
 performs_sound (Weights leaf vector index place group part) s t reply sound may (said, new) = like s t _ sound new same
 performs_sound (Normalise ty) s t reply sound may (kept, base, tree, a, b, said, new) = like s t _ sound new same
 performs_sound (Rebuild name ty) s t reply sound may (kept, base, tree, a, b, said, new) = like s t _ sound new same

@@ -1,6 +1,6 @@
 -- What keeps operations from being performed, by what stands of them. No public clause cites this module.
 use Rattle.std.specs.Option.{IsSomeAnd}
-use Rattle.std.specs.Prelude.{◌||◌, ◌⊎◌, is_none, ◌≡◌, ℕ, ◌<◌, ◌≤◌, false, length, List, map, ℤ, pos, nat_abs, int_lt, IsTrue, IsFalse, [], ◌∷◌, ◌++◌}
+use Rattle.std.specs.Prelude.{◌||◌, ◌⊎◌, is_none, ◌≡◌, ℕ, ◌<◌, ◌≤◌, false, length, List, map, Some, ℤ, pos, nat_abs, int_lt, IsTrue, IsFalse, [], ◌∷◌, ◌++◌}
 use Rattle.dt_kinds.specs.declared.kind.Rep.{Rep}
 use Rattle.dt_map.specs.Typemap.{Marked}
 use Rattle.dt_map.specs.Elements.{elements, are_inside, Overlaps}
@@ -21,6 +21,7 @@ use Rattle.dt_type.specs.declared.fault.CtorFault.TheVariants as fault
 use Rattle.dt_wire.specs.Import.{IsRefused}
 use Rattle.dt_machine.specs.Refusal.{elements_of, IsTooMuch, IsSending, IsTruncated}
 use Rattle.dt_machine.specs.State.{State, is_unknown, is_session_taken, session_of}
+use Rattle.dt_machine.specs.Sides.{buffers_of}
 use Rattle.dt_machine.specs.Row.{Row, ◌when◌}
 
 -- what keeps the packed bytes of an operation from being printed, by its type and the length of its buffer
@@ -90,9 +91,12 @@ IsUnreduced r (Refused Overlap) = reduction.AreInside r × Overlaps r.target
 IsUnreduced r NoMemory = Unit {0}
 IsUnreduced r stop = ⊥
 
--- the ranks that buffers hold
+-- the ranks that buffers hold, and those of the buffers of some names, all of which stand
 abbrev pub ranks_in : Marked → ℕ → ℤ → List (List ℕ) → Ranked
 ranks_in m count origin buffers = record { typemap = m; count = count; rows = map (words_of (elements m count origin)) buffers }
+
+abbrev pub Gathers : State → Marked → ℕ → ℤ → List (List ℕ) → Ranked → Type 0
+Gathers s m count origin names ranks = (buffers : List (List ℕ)) × (buffers_of s names ≡ Some buffers) × (ranks ≡ ranks_in m count origin buffers)
 
 -- why no type is made of bytes that spell one
 abbrev pub IsUnread : List ℕ → Stop → Type 0

@@ -1,6 +1,7 @@
 -- When a command is refused, and by which number.
-use Rattle.std.specs.Prelude.{◌≡◌, ℕ, ◌+◌, ◌*◌, ◌≤◌, ◌<◌, ℤ, pos, nat_abs, int_lt, ◌<ℤ◌, Bool, ◌||◌, IsTrue, IsFalse, is_none, List, [], ◌∷◌, length, None, true, false, ◌⊎◌}
-use Rattle.std.specs.Option.{IsSomeAnd}
+use Rattle.std.specs.Prelude.{◌≡◌, ℕ, ◌+◌, ◌*◌, ◌≤◌, ◌<◌, ℤ, pos, nat_abs, int_lt, ◌<ℤ◌, Bool, ◌||◌, not, IsTrue, IsFalse, is_none, List, [], ◌∷◌, length, None, true, false, ◌⊎◌}
+use Rattle.std.specs.List.{list_any}
+use Rattle.std.specs.Option.{IsSomeAnd, option_map_or}
 use Rattle.dt_kinds.specs.Name.{is_left_out}
 use Rattle.dt_kinds.specs.declared.kind.Rep.{Rep}
 use Rattle.dt_kinds.specs.declared.kind.Rep.TheVariants.{Native}
@@ -58,10 +59,9 @@ IsOutside s ty buffer count origin =
 abbrev pub IsTooMuch : State → Rep → ℤ → ℤ → Kept → Type 0
 IsTooMuch s rep count origin kept = MOST_OPEN < packed_open s + total rep (elements_of kept count origin)
 
--- some byte of these elements lies outside one of the buffers that stand under these names
-abbrev pub IsOneOutside : State → List (List ℕ) → List Entry → Type 0
-IsOneOutside s [] es = ⊥
-IsOneOutside s (name ∷ names) es = IsSomeAnd (buffer_of s name) (λ bytes. IsFalse (are_inside (length bytes) es)) ⊎ IsOneOutside s names es
+-- some byte of these elements lies outside the buffer of a name, where it stands
+abbrev pub lies_outside : State → List Entry → List ℕ → Bool
+lies_outside s es name = option_map_or (λ bytes. not (are_inside (length bytes) es)) (buffer_of s name) false
 
 -- too many ranks, or their elements have too many bytes together
 abbrev pub AreTooMany : ℕ → ℤ → ℤ → Kept → Type 0
@@ -215,7 +215,7 @@ conditions s (Reduceall op how count ty origin target ranks) =
     ∷ UnsupportedKind when IsTrue (is_left_out ty)
     ∷ NotCommitted when IsNotCommitted s ty
     ∷ BadArgument when IsTrue (int_lt count (pos 0))
-    ∷ Outside when IsSomeAnd (type_of s ty) (λ kept. IsOneOutside s (target ∷ ranks) (elements_of kept count origin))
+    ∷ Outside when IsSomeAnd (type_of s ty) (λ kept. IsTrue (list_any (lies_outside s (elements_of kept count origin)) (target ∷ ranks)))
     ∷ Overlap when IsSomeAnd (type_of s ty) (λ kept. Overlaps (elements_of kept count origin))
     ∷ TooLarge when IsSomeAnd (type_of s ty) (AreTooMany (length ranks) count origin)
     ∷ []

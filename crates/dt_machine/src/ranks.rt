@@ -1,11 +1,12 @@
 //! `reduceall OP HOW COUNT TYPE ORIGIN TARGET RANK ..`
-ghost use Rattle.std.specs.Prelude.{◌≡◌, ◌≢◌, ◌≤◌, ◌*◌, ℕ, ℤ, pos, nat_abs, false, IsTrue, IfOk, Decides, List, [], map, length, Some};
+ghost use Rattle.std.specs.List.{list_any};
+ghost use Rattle.std.specs.Prelude.{◌≡◌, ◌≢◌, ◌≤◌, ◌*◌, ℤ, nat_abs, false, IfOk, Decides, [], length};
 ghost use Rattle.dt_kinds.specs.declared.kind.Rep.TheVariants.{Native};
 ghost use Rattle.dt_machine.specs.Outcome.{ComesTo};
-ghost use Rattle.dt_machine.specs.Operation.{ranks_in};
-ghost use Rattle.dt_machine.specs.Refusal.{AreTooMany, IsOneOutside};
-ghost use Rattle.dt_machine.specs.Sides.{buffers_of, is_some_lost};
-ghost use Rattle.dt_map.specs.Elements.{elements, are_inside};
+ghost use Rattle.dt_machine.specs.Operation.{Gathers};
+ghost use Rattle.dt_machine.specs.Refusal.{AreTooMany, lies_outside};
+ghost use Rattle.dt_machine.specs.Sides.{is_some_lost};
+ghost use Rattle.dt_map.specs.Elements.{elements};
 ghost use Rattle.dt_map.specs.Packed.{total};
 ghost use Rattle.dt_names.specs.declared.kept.Kept.{Kept as KeptValue};
 ghost use Rattle.dt_reduce.specs.Merges.{Bracket};
@@ -60,20 +61,23 @@ impl Machine {
         names.iter().any(|name| !self.is_buffer_taken(name))
     }
 
+    /// Whether some element lies outside a buffer that stands.
+    fn lies_outside(&self, name: &Name, ty: &Datatype, copies: u32, origin: i64) -> bool
+        ensures { result ≡ lies_outside self.now (elements (typemap_of ty.now) copies origin) name.now }
+    {
+        match self.buffer_len(name) {
+            Some(len) => !span_inside(ty, copies, origin, len),
+            None => false,
+        }
+    }
+
     /// Whether some element lies outside one of the buffers.
     fn is_one_outside(&self, names: &[Name], ty: &Datatype, copies: u32, origin: i64) -> bool
-        requires { is_some_lost self.now names.now ≡ false }
-        ensures { Decides result (IsOneOutside self.now names.now (elements (typemap_of ty.now) copies origin)) }
+        ensures { result ≡ list_any (lies_outside self.now (elements (typemap_of ty.now) copies origin)) names.now }
     {
-        for name in names {
-            let Some(len) = self.buffer_len(name) else {
-                unreachable!()
-            };
-            if !span_inside(ty, copies, origin, len) {
-                return true;
-            }
-        }
-        false
+        names
+            .iter()
+            .any(|name| self.lies_outside(name, ty, copies, origin))
     }
 
     /// The ranks that the buffers hold.
@@ -85,10 +89,10 @@ impl Machine {
         origin: i64,
     ) -> Result<Ranks, NoMemory>
         requires stand { is_some_lost self.now names.now ≡ false }
-        requires inside { ¬ IsOneOutside self.now names.now (elements (typemap_of ty.now) copies origin) }
+        requires inside { list_any (lies_outside self.now (elements (typemap_of ty.now) copies origin)) names.now ≡ false }
         requires few { length names.now ≤ 1024 }
         requires small { total Native (elements (typemap_of ty.now) copies origin) * length names.now ≤ 16777216 }
-        ensures { (buffers : List (List ℕ)) → buffers_of self.now names.now ≡ Some buffers → IfOk result (λ ranks. ranks ≡ ranks_in (typemap_of ty.now) copies origin buffers) }
+        ensures { IfOk result (Gathers self.now (typemap_of ty.now) copies origin names.now) }
     {
         let mut ranks = Ranks::new(self.alloc, ty, copies)?;
         'ranks: for name in names {

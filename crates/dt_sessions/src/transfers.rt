@@ -3,6 +3,8 @@ ghost use Rattle.std.specs.Prelude.{◌≡◌, ◌≢◌, ℕ, List, OnOk, OnErr
 ghost use Rattle.std.specs.Option.{IsSomeAnd};
 ghost use Rattle.dt_copy.specs.Copied.{copied};
 ghost use Rattle.dt_names.specs.Names.{under, bytes_in};
+ghost use Rattle.dt_reduce.specs.Folded.{folded};
+ghost use Rattle.dt_reduce.specs.Ranks.{elements_at, CanReduceAll};
 ghost use Rattle.dt_reduce.specs.Reduced.{reduced};
 ghost use Rattle.dt_sessions.specs.Open.{nothing_stands, packed_in, next_in, opened_at, receipt_in, CanGive, CanSeek, CanTake, StandsWith, with_buffer, with_bytes, with_given, with_opened, with_moved, without_session, IsOver, IsSmall};
 ghost use Rattle.dt_sessions.specs.declared.session.Opened.{Opened as OpenedValue};
@@ -12,7 +14,7 @@ use dt_copy::CopyPlan;
 use dt_kinds::NoMemory;
 use dt_names::{Buffer, Buffers};
 use dt_ops::{Call, Law, StoredOp};
-use dt_reduce::ReducePlan;
+use dt_reduce::{AllFault, Ranks, ReducePlan, reduce_all};
 use dt_reply::Receipt;
 use dt_script::Name;
 use std::alloc::Global;
@@ -227,6 +229,35 @@ impl Transfers {
         let elements = plan.run(op, from, &mut bytes);
         self.buffers.swap(target, Buffer::from_vec(bytes));
         elements
+    }
+
+    /// Reduces ranks into the elements of a buffer, where the operation begins at an origin: each word becomes what the ranks' words of the
+    /// same number are joined to. Nothing else that stands changes. Where memory runs out nothing is changed.
+    pub fn reduce_all<L: Law, F: Call>(
+        &mut self,
+        alloc: Global,
+        op: &StoredOp<L, F>,
+        ranks: &mut Ranks,
+        merges: &[u32],
+        origin: i64,
+        target: &Name,
+    ) -> Result<(), NoMemory>
+        requires { IsSomeAnd (under target.now self.old.buffers) (λ into. CanReduceAll ranks.old merges.now origin (length into)) }
+        ensures ok { (into : List ℕ) → under target.now self.old.buffers ≡ Some into → OnOk result (self.new ≡ with_bytes self.old target.now (folded L.join (elements_at ranks.old origin) ranks.old.rows into)) }
+        ensures err { OnErr result (self.new ≡ self.old) }
+    {
+        let nothing = Buffer::from_vec(Vec::new(alloc));
+        let mut bytes = self.buffers.swap(target, nothing).into_vec();
+        let answer = reduce_all(alloc, op, ranks, merges, origin, &mut bytes);
+        self.buffers.swap(target, Buffer::from_vec(bytes));
+        match answer {
+            Ok(_) => Ok(()),
+            Err(AllFault::NoMemory) => Err(NoMemory),
+            Err(AllFault::Empty) => unreachable!(),
+            Err(AllFault::BadMerge { .. }) => unreachable!(),
+            Err(AllFault::Outside) => unreachable!(),
+            Err(AllFault::Overlap) => unreachable!(),
+        }
     }
 
     /// Takes a session away.
