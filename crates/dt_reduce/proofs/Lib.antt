@@ -1,11 +1,11 @@
 pub mod Adding
-mod Answering
+pub mod Answering
 pub mod Apart
 pub mod Boundary
 mod Column
 pub mod Columns
 pub mod Gathered
-mod Halving
+pub mod Halving
 pub mod Joining
 pub mod Leaving
 pub mod Merging

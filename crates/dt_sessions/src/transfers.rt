@@ -3,6 +3,7 @@ ghost use Rattle.std.specs.Prelude.{◌≡◌, ◌≢◌, ℕ, List, OnOk, OnErr
 ghost use Rattle.std.specs.Option.{IsSomeAnd};
 ghost use Rattle.dt_copy.specs.Copied.{copied};
 ghost use Rattle.dt_names.specs.Names.{under, bytes_in};
+ghost use Rattle.dt_reduce.specs.declared.fault.AllFault.TheVariants as AllFault;
 ghost use Rattle.dt_reduce.specs.Folded.{folded};
 ghost use Rattle.dt_reduce.specs.Ranks.{elements_at, CanReduceAll};
 ghost use Rattle.dt_reduce.specs.Reduced.{reduced};
@@ -36,6 +37,16 @@ impl Model for Transfers {
     ghost view = { λ t. record { buffers = t.buffers; sessions = t.sessions.entries } };
 
     ghost invariant = { λ t. HoldsOpen t.buffers t.sessions.entries };
+}
+
+/// The fault that is want of memory.
+fn only_memory(fault: AllFault) -> NoMemory
+    requires { fault ≡ AllFault.NoMemory }
+{
+    match fault {
+        AllFault::NoMemory => NoMemory,
+        _ => unreachable!(),
+    }
 }
 
 impl Transfers {
@@ -179,13 +190,7 @@ impl Transfers {
 
     /// Copies the elements of a plan from one buffer to another: those of the source, as it is now, to the places of the target's.
     /// Nothing else that stands changes, and the plan stays as it was. Answers how many elements these are. It takes no memory.
-    pub fn copy(
-        &mut self,
-        alloc: Global,
-        plan: &mut CopyPlan,
-        source: &Name,
-        target: &Name,
-    ) -> u64
+    pub fn copy(&mut self, alloc: Global, plan: &mut CopyPlan, source: &Name, target: &Name) -> u64
         requires apart { source.now ≢ target.now }
         requires source { StandsWith self.old source.now plan.old.source_len }
         requires target { StandsWith self.old target.now plan.old.target_len }
@@ -252,11 +257,7 @@ impl Transfers {
         self.buffers.swap(target, Buffer::from_vec(bytes));
         match answer {
             Ok(_) => Ok(()),
-            Err(AllFault::NoMemory) => Err(NoMemory),
-            Err(AllFault::Empty) => unreachable!(),
-            Err(AllFault::BadMerge { .. }) => unreachable!(),
-            Err(AllFault::Outside) => unreachable!(),
-            Err(AllFault::Overlap) => unreachable!(),
+            Err(fault) => Err(only_memory(fault)),
         }
     }
 

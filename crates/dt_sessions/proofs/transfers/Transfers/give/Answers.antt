@@ -1,5 +1,4 @@
-use Rattle.std.proofs.Common.{◌≡◌, List, ◌++◌, ℕ, Some, length, take, drop, sym, ap, subst, ◌∙◌}
-use Rattle.std.proofs.Math.Seq.{take-append_seam}
+use Rattle.std.proofs.Common.{◌≡◌, Some, length, drop, sym, ap, subst, ◌∙◌}
 use Rattle.std.specs.BTreeMap.{is_at}
 use Rattle.std.specs.Cmp.Lexicographic.{slice_cmp}
 use Rattle.std.specs.Map.{set_value}
@@ -7,6 +6,7 @@ use Rattle.std.specs.Ordering.{nat_cmp}
 use Rattle.dt_names.specs.Names.{under}
 use Rattle.dt_sessions.specs.declared.session.Opened.{Opened}
 use Rattle.dt_sessions.specs.Open.{Standing, CanGive, HoldsOpen, opened_given, buffer_in, receipt_in, with_given}
+use Rattle.dt_sessions.proofs.Changing.{whole}
 use Rattle.dt_sessions.proofs.OpenLemmas.{and_found, never_without, length_found, found_set, holds_given, one_found, set_twice}
 use Rattle.dt_sessions.proofs.transfers.Transfers.give.Goals as goal
 
@@ -33,10 +33,6 @@ swap-requires-2 c =
     let there = found_set test c.self.inside.buffers c.swap.result c.from_vec-nothing.result c.swap.ensures.was in
     let here = ap (λ es. under c.in-Some.opened.now.buffer es) c.swap.ensures.swapped ∙ there in
     λ none. let both = sym here ∙ none in cc
-
--- the whole slice was written
-whole : (n : ℕ) (new rest bytes : List ℕ) → n ≡ length new → bytes ≡ take n (new ++ rest) → bytes ≡ new
-whole n new rest bytes all is = is ∙ (ap (λ n. take n (new ++ rest)) all ∙ take-append_seam new rest)
 
 pub invariant_of-self : goal.invariant_of-self
 invariant_of-self c =
