@@ -4,3 +4,11 @@
 
 #[cfg(test)]
 mod merges;
+#[cfg(test)]
+mod operations;
+#[cfg(test)]
+mod ranks;
+#[cfg(test)]
+mod reductions;
+#[cfg(test)]
+mod stored;
