@@ -1,14 +1,20 @@
 -- The ranks that the buffers of some names hold.
-use Rattle.std.proofs.Common.{◌≡◌, ◌≢◌, ℕ, suc, ◌+◌, ◌*◌, ◌≤◌, ◌<◌, ℤ, Bool, true, false, ◌||◌, not, List, [], ◌∷◌, ◌++◌, map, take, length, get_or, Option, Some, None, refl, sym, ap, ◌∙◌, arith, map-append}
+use Rattle.std.proofs.Common.{◌≡◌, ◌≢◌, ℕ, suc, ◌+◌, ◌*◌, ◌≤◌, ◌<◌, ℤ, pos, Bool, true, false, ◌||◌, not, List, [], ◌∷◌, ◌++◌, map, take, length, get_or, Option, Some, None, refl, sym, ap, subst, ◌∙◌, arith}
 use Rattle.std.proofs.lemmas.Bool.{or_parts}
-use Rattle.std.proofs.lemmas.List.{length-map, take_more}
+use Rattle.std.proofs.Math.Nat.{mul-le-mul_left}
+use Rattle.std.proofs.lemmas.List.{length-map, length-take-le, map-append, take_more}
 use Rattle.std.specs.List.{list_any}
 use Rattle.std.specs.Option.{is_none, option_and_then, option_map, option_map_or}
+use Rattle.dt_kinds.specs.declared.kind.Rep.TheVariants.{Native}
 use Rattle.dt_map.specs.declared.entry.Entry.{Entry}
 use Rattle.dt_map.specs.Elements.{elements, are_inside}
+use Rattle.dt_map.specs.Packed.{total}
 use Rattle.dt_map.specs.Typemap.{Marked}
 use Rattle.dt_reduce.specs.Folded.{words_of}
-use Rattle.dt_reduce.specs.Ranks.{Ranked, with_rank}
+use Rattle.dt_reduce.proofs.Adding.{total_anywhere}
+use Rattle.dt_reduce.specs.declared.fault.RanksFault.{RanksFault}
+use Rattle.dt_reduce.specs.declared.fault.RanksFault.TheVariants as why
+use Rattle.dt_reduce.specs.Ranks.{Ranked, with_rank, IsNotAdded}
 use Rattle.dt_machine.specs.Operation.{ranks_in, Gathers}
 use Rattle.dt_machine.specs.Refusal.{lies_outside}
 use Rattle.dt_machine.specs.Sides.{buffers_of, is_some_lost}
@@ -70,7 +76,7 @@ module _ (s : State) (m : Marked) (count : ℕ) (origin : ℤ) where
         buffers ++ bytes ∷ [],
         buffers-append s names name buffers bytes all one,
         more ∙ (ap (λ r. with_rank r origin bytes) is
-        ∙ ap (λ rows. let r : Ranked = record { typemap = m; count = count; rows = rows } in r) (sym (map-append row buffers (bytes ∷ [])))),
+            ∙ ap (λ rows. let r : Ranked = record { typemap = m; count = count; rows = rows } in r) (sym (map-append row buffers (bytes ∷ [])))),
       )
 
   pub gathers_next : (names : List (List ℕ)) (i : ℕ) (name bytes : List ℕ) (ranks next : Ranked) → i < length names → name ≡ get_or names i name
@@ -85,3 +91,27 @@ module _ (s : State) (m : Marked) (count : ℕ) (origin : ℤ) where
   pub rows_gathered : (names : List (List ℕ)) (ranks : Ranked) → Gathers s m count origin names ranks → length ranks.rows ≡ length names
   rows_gathered names ranks (buffers, all, is) =
       ap (λ (r : Ranked). length r.rows) is ∙ (length-map buffers (words_of (elements m count origin)) ∙ as_many s names buffers all)
+
+  -- what keeps a rank from being added that lies inside and is few enough is want of memory
+  pub wants_memory : (names : List (List ℕ)) (i : ℕ) (bytes : List ℕ) (ranks : Ranked) (fault : RanksFault) → Gathers s m count origin (take i names) ranks
+      → i < length names → length names ≤ 1024 → total Native (elements m count origin) * length names ≤ 16777216
+      → are_inside (length bytes) (elements m count origin) ≡ true → IsNotAdded ranks origin (length bytes) fault → fault ≡ why.NoMemory
+  wants_memory names i bytes ranks fault gathers lt few small inside refused =
+      by fault (subst (λ r. IsNotAdded r origin (length bytes) fault) gathers.2 refused)
+    where
+      r : Ranked
+      r = ranks_in m count origin gathers.0
+
+      long : length r.rows ≡ i
+      long = length-map gathers.0 (words_of (elements m count origin)) ∙ (as_many s (take i names) gathers.0 gathers.1 ∙ length-take-le i names (omega (arith, lt)))
+
+      by : (fault : RanksFault) → IsNotAdded r origin (length bytes) fault → fault ≡ why.NoMemory
+      by why.Outside out = absurd (out inside)
+      by why.Full (lies, full) = absurd (omega (arith, full, long, lt, few))
+      by why.TooLarge (room, large) =
+          let n = total Native (elements m count origin) in
+          let same : total Native (elements m count (pos 0)) ≡ n = sym (total_anywhere m count origin) in
+          let most : n * (i + 1) ≤ n * length names = mul-le-mul_left n (let next : i + 1 ≤ length names = omega (arith, lt) in next) in
+          let more : 16777216 < n * (i + 1) = subst (λ k. 16777216 < n * (k + 1)) long (subst (λ k. 16777216 < k * (length r.rows + 1)) same large) in
+          absurd (omega (arith, most, more, small))
+      by why.NoMemory can = refl

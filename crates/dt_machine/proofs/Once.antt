@@ -156,8 +156,8 @@ ranks_one s op how count ty origin target ranks t u reply other (kept, held, buf
     let same : fs ≡ fs2 = ap (λ k. elements_of k count origin) one in (
       said ∙ (ap (λ xs. ReducedAll (length xs) (length ranks)) same ∙ sym told),
       new
-      ∙ (ap (λ xs. with_folded s op target xs buffers held) same
-      ∙ (ap (λ bs. with_folded s op target fs2 bs held) three ∙ (ap (with_folded s op target fs2 buffers2) two ∙ sym now))),
+          ∙ (ap (λ xs. with_folded s op target xs buffers held) same
+          ∙ (ap (λ bs. with_folded s op target fs2 bs held) three ∙ (ap (with_folded s op target fs2 buffers2) two ∙ sym now))),
     )
 
 performs_one : (command : Command) (s t u : State) (reply other : Reply) → (¬ ChoosesBy s command) → Performs command s reply t → Performs command s other u

@@ -1,11 +1,18 @@
 -- When elements are reduced, and what comes of it.
-use Rattle.std.proofs.Common.{◌≡◌, ℕ, ◌≤◌, ◌<◌, ℤ, pos, nat_abs, false, ◌||◌, List, length, Some, None, IsTrue, refl, ap, subst, ◌∙◌, arith}
-use Rattle.std.proofs.lemmas.Bool.{or_from, or_left, or_right}
+use Rattle.std.proofs.Common.{◌≡◌, ℕ, ◌≤◌, ◌<◌, ℤ, pos, nat_abs, true, false, ◌||◌, List, [], ◌∷◌, length, Some, None, IsTrue, inl, inr, refl, ap, subst, ◌∙◌, arith}
+use Rattle.std.proofs.lemmas.Bool.{cases_lt, or_from, or_left, or_right}
+use Rattle.std.proofs.lemmas.List.Sums.{sum_by-cons}
 use Rattle.std.specs.Option.{is_none, IsSomeAnd}
 use Rattle.std.specs.Prelude.{int_lt}
-use Rattle.dt_copy.proofs.Opened.{few_elements, number_of}
+use Rattle.dt_copy.proofs.Opened.{number_of}
+use Rattle.dt_elems.proofs.Clashes.{overlaps_from_size}
+use Rattle.dt_kinds.proofs.Table.{native_size-pos}
+use Rattle.dt_kinds.specs.declared.kind.Rep.TheVariants.{Native}
+use Rattle.dt_kinds.specs.Kind.{packed_size}
 use Rattle.dt_kinds.specs.Name.{is_left_out}
+use Rattle.dt_map.specs.declared.entry.Entry.{Entry}
 use Rattle.dt_map.specs.Elements.{elements, are_inside, Overlaps}
+use Rattle.dt_map.specs.Packed.{total}
 use Rattle.dt_map.specs.Typemap.{Marked}
 use Rattle.dt_names.specs.declared.kept.Kept.{Kept}
 use Rattle.dt_names.specs.declared.stop.Stop.{Stop}
@@ -34,13 +41,20 @@ use Rattle.dt_machine.proofs.Copies.{neither, side_known}
 use Rattle.dt_machine.proofs.Rows.{refused, allowed, some_and, and_some}
 use Rattle.dt_machine.proofs.TypeWords.{is_supported}
 
--- elements that can be reduced are few, wherever they begin
-pub few_reduced : (m : Marked) (count : ℕ) (source_origin : ℤ) (source_len : ℕ) (target_origin : ℤ) (target_len : ℕ) → target_len ≤ 16777216
-    → CanReduce (reduction_of m count source_origin source_len target_origin target_len) → length (elements m count (pos 0)) ≤ 16777216
-few_reduced m count source_origin source_len target_origin target_len small can =
-    let fs = elements m count target_origin in
-    let few = few_elements target_len fs fs small can.inside.target can.apart (omega arith) in
-    omega (arith, few, number_of m count target_origin, number_of m count (pos 0))
+-- each element has a byte
+some_bytes_each : (es : List Entry) → length es ≤ total Native es
+some_bytes_each [] = omega arith
+some_bytes_each (e ∷ es) =
+    let rest = some_bytes_each es in
+    omega (arith, rest, native_size-pos e.kind, sum_by-cons (λ (f : Entry). packed_size Native f.kind) e es)
+
+-- elements that lie inside a buffer and don't overlap are few, wherever they begin
+pub few_apart : (m : Marked) (count : ℕ) (origin : ℤ) (len : ℕ) → len ≤ 16777216 → are_inside len (elements m count origin) ≡ true
+    → (¬ Overlaps (elements m count origin)) → length (elements m count (pos 0)) ≤ 16777216
+few_apart m count origin len small inside apart =
+    let fs = elements m count origin in
+    let few : total Native fs ≤ len = elim (cases_lt len (total Native fs)) [ inl more ↦ absurd (apart (overlaps_from_size len fs inside more)) | inr most ↦ most ] in
+    omega (arith, few, small, some_bytes_each fs, number_of m count origin, number_of m count (pos 0))
 
 -- `reduce OP COUNT TYPE BUFFER ORIGIN BUFFER ORIGIN`
 module _ (s : State) (op : Op) (count : ℤ) (ty source : List ℕ) (source_origin : ℤ) (target : List ℕ) (target_origin : ℤ) where
@@ -179,4 +193,4 @@ module _ (s : State) (op : Op) (count : ℤ) (ty source : List ℕ) (source_orig
           let makes = reduced (join_of op) the_reduction.source the_reduction.target in
           let made : with_made s target (under source s.buffers) (under target s.buffers) makes ≡ with_bytes s target (makes old held) =
           ap (λ o. with_made s target o (under target s.buffers) makes) there ∙ ap (λ o. with_made s target (Some old) o makes) here
-          in (kept, old, held, is, there, here, refl, ap with_count made)
+          in (kept, old, held, is, there, here, (refl, ap with_count made))

@@ -1,24 +1,45 @@
 //! Buffers that are reduced with the operation of a word.
-ghost use Rattle.std.specs.Prelude.{◌≡◌, ◌≢◌, ℕ, List, Some, OnOk, OnErr, length};
 ghost use Rattle.std.specs.Option.{IsSomeAnd};
+ghost use Rattle.std.specs.Prelude.{◌≡◌, ◌≢◌, ℕ, List, OnErr, OnOk, Some, length};
 ghost use Rattle.dt_machine.specs.Joins.{join_of};
 ghost use Rattle.dt_names.specs.Names.{under};
+ghost use Rattle.dt_ops.specs.Stored.{Joins, TakesWords};
 ghost use Rattle.dt_reduce.specs.Folded.{folded};
-ghost use Rattle.dt_reduce.specs.Ranks.{elements_at, CanReduceAll};
+ghost use Rattle.dt_reduce.specs.Ranks.{CanReduceAll, elements_at};
 ghost use Rattle.dt_reduce.specs.Reduced.{reduced};
 ghost use Rattle.dt_sessions.specs.Open.{StandsWith, with_bytes};
 
 use dt_kinds::NoMemory;
 use dt_ops::{
-    AndLaw, FirstLaw, LastLaw, MaxLaw, MinLaw, OrLaw, ProdLaw, StoredOp, SumLaw, XorLaw, and,
-    first, last, max, min, or, prod, sum, xor,
+    AndLaw, Call, FirstLaw, LastLaw, Law, MaxLaw, MinLaw, OrLaw, ProdLaw, StoredOp, SumLaw, XorLaw,
+    and, first, last, max, min, or, prod, sum, xor,
 };
 use dt_reduce::{Ranks, ReducePlan};
 use dt_script::{Name, Op};
 use dt_sessions::Transfers;
 use std::alloc::Global;
 
-/// Reduces the target's elements by the source's. It takes no memory.
+/// Reduces the target's elements by the source's, with a closure that is kept. It takes no memory.
+fn reduce_by<L: Law, F: Call + Drop>(
+    f: F,
+    transfers: &mut Transfers,
+    alloc: Global,
+    plan: &mut ReducePlan,
+    source: &Name,
+    target: &Name,
+)
+    requires takes_words { TakesWords (F.may f) }
+    requires joins { Joins L.join (F.gives f) }
+    requires apart { source.now ≢ target.now }
+    requires source { StandsWith transfers.old source.now plan.old.source_len }
+    requires target { StandsWith transfers.old target.now plan.old.target_len }
+    ensures { (old held : List ℕ) → under source.now transfers.old.buffers ≡ Some old → under target.now transfers.old.buffers ≡ Some held → transfers.new ≡ with_bytes transfers.old target.now (reduced L.join plan.old.source plan.old.target old held) }
+{
+    let op: StoredOp<L, F> = StoredOp::new(f);
+    transfers.reduce(alloc, plan, &op, source, target);
+}
+
+/// Reduces the target's elements by the source's, with the operation of a word. It takes no memory.
 pub(crate) fn reduce_in(
     transfers: &mut Transfers,
     alloc: Global,
@@ -27,78 +48,46 @@ pub(crate) fn reduce_in(
     source: &Name,
     target: &Name,
 )
-    requires differ { source.now ≢ target.now }
+    requires apart { source.now ≢ target.now }
     requires source { StandsWith transfers.old source.now plan.old.source_len }
     requires target { StandsWith transfers.old target.now plan.old.target_len }
     ensures { (old held : List ℕ) → under source.now transfers.old.buffers ≡ Some old → under target.now transfers.old.buffers ≡ Some held → transfers.new ≡ with_bytes transfers.old target.now (reduced (join_of op) plan.old.source plan.old.target old held) }
 {
     match op {
-        Op::Sum => transfers.reduce(
-            alloc,
-            plan,
-            &StoredOp::<SumLaw, _>::new(sum),
-            source,
-            target,
-        ),
-        Op::Prod => transfers.reduce(
-            alloc,
-            plan,
-            &StoredOp::<ProdLaw, _>::new(prod),
-            source,
-            target,
-        ),
-        Op::Min => transfers.reduce(
-            alloc,
-            plan,
-            &StoredOp::<MinLaw, _>::new(min),
-            source,
-            target,
-        ),
-        Op::Max => transfers.reduce(
-            alloc,
-            plan,
-            &StoredOp::<MaxLaw, _>::new(max),
-            source,
-            target,
-        ),
-        Op::And => transfers.reduce(
-            alloc,
-            plan,
-            &StoredOp::<AndLaw, _>::new(and),
-            source,
-            target,
-        ),
-        Op::Or => transfers.reduce(alloc, plan, &StoredOp::<OrLaw, _>::new(or), source, target),
-        Op::Xor => transfers.reduce(
-            alloc,
-            plan,
-            &StoredOp::<XorLaw, _>::new(xor),
-            source,
-            target,
-        ),
-        Op::First => {
-            transfers.reduce(
-                alloc,
-                plan,
-                &StoredOp::<FirstLaw, _>::new(first),
-                source,
-                target,
-            )
-        }
-        Op::Last => {
-            transfers.reduce(
-                alloc,
-                plan,
-                &StoredOp::<LastLaw, _>::new(last),
-                source,
-                target,
-            )
-        }
-    };
+        Op::Sum => reduce_by::<SumLaw, _>(sum, transfers, alloc, plan, source, target),
+        Op::Prod => reduce_by::<ProdLaw, _>(prod, transfers, alloc, plan, source, target),
+        Op::Min => reduce_by::<MinLaw, _>(min, transfers, alloc, plan, source, target),
+        Op::Max => reduce_by::<MaxLaw, _>(max, transfers, alloc, plan, source, target),
+        Op::And => reduce_by::<AndLaw, _>(and, transfers, alloc, plan, source, target),
+        Op::Or => reduce_by::<OrLaw, _>(or, transfers, alloc, plan, source, target),
+        Op::Xor => reduce_by::<XorLaw, _>(xor, transfers, alloc, plan, source, target),
+        Op::First => reduce_by::<FirstLaw, _>(first, transfers, alloc, plan, source, target),
+        Op::Last => reduce_by::<LastLaw, _>(last, transfers, alloc, plan, source, target),
+    }
 }
 
-/// Reduces ranks into the target's elements. Where memory runs out nothing is changed.
-pub(crate) fn reduce_ranks_in(
+/// Reduces ranks into the target's elements, with a closure that is kept. Where memory runs out nothing is changed.
+fn fold_by<L: Law, F: Call + Drop>(
+    f: F,
+    transfers: &mut Transfers,
+    alloc: Global,
+    ranks: &mut Ranks,
+    merges: &[u32],
+    origin: i64,
+    target: &Name,
+) -> Result<(), NoMemory>
+    requires takes_words { TakesWords (F.may f) }
+    requires joins { Joins L.join (F.gives f) }
+    requires ranks { IsSomeAnd (under target.now transfers.old.buffers) (λ held. CanReduceAll ranks.old merges.now origin (length held)) }
+    ensures ok { (held : List ℕ) → under target.now transfers.old.buffers ≡ Some held → OnOk result (transfers.new ≡ with_bytes transfers.old target.now (folded L.join (elements_at ranks.old origin) ranks.old.rows held)) }
+    ensures err { OnErr result (transfers.new ≡ transfers.old) }
+{
+    let op: StoredOp<L, F> = StoredOp::new(f);
+    transfers.reduce_all(alloc, &op, ranks, merges, origin, target)
+}
+
+/// Reduces ranks into the target's elements, with the operation of a word. Where memory runs out nothing is changed.
+pub(crate) fn fold_in(
     transfers: &mut Transfers,
     alloc: Global,
     op: Op,
@@ -112,32 +101,14 @@ pub(crate) fn reduce_ranks_in(
     ensures err { OnErr result (transfers.new ≡ transfers.old) }
 {
     match op {
-        Op::Sum => {
-            transfers.reduce_all(alloc, &StoredOp::<SumLaw, _>::new(sum), ranks, merges, origin, target)
-        }
-        Op::Prod => {
-            transfers.reduce_all(alloc, &StoredOp::<ProdLaw, _>::new(prod), ranks, merges, origin, target)
-        }
-        Op::Min => {
-            transfers.reduce_all(alloc, &StoredOp::<MinLaw, _>::new(min), ranks, merges, origin, target)
-        }
-        Op::Max => {
-            transfers.reduce_all(alloc, &StoredOp::<MaxLaw, _>::new(max), ranks, merges, origin, target)
-        }
-        Op::And => {
-            transfers.reduce_all(alloc, &StoredOp::<AndLaw, _>::new(and), ranks, merges, origin, target)
-        }
-        Op::Or => {
-            transfers.reduce_all(alloc, &StoredOp::<OrLaw, _>::new(or), ranks, merges, origin, target)
-        }
-        Op::Xor => {
-            transfers.reduce_all(alloc, &StoredOp::<XorLaw, _>::new(xor), ranks, merges, origin, target)
-        }
-        Op::First => {
-            transfers.reduce_all(alloc, &StoredOp::<FirstLaw, _>::new(first), ranks, merges, origin, target)
-        }
-        Op::Last => {
-            transfers.reduce_all(alloc, &StoredOp::<LastLaw, _>::new(last), ranks, merges, origin, target)
-        }
+        Op::Sum => fold_by::<SumLaw, _>(sum, transfers, alloc, ranks, merges, origin, target),
+        Op::Prod => fold_by::<ProdLaw, _>(prod, transfers, alloc, ranks, merges, origin, target),
+        Op::Min => fold_by::<MinLaw, _>(min, transfers, alloc, ranks, merges, origin, target),
+        Op::Max => fold_by::<MaxLaw, _>(max, transfers, alloc, ranks, merges, origin, target),
+        Op::And => fold_by::<AndLaw, _>(and, transfers, alloc, ranks, merges, origin, target),
+        Op::Or => fold_by::<OrLaw, _>(or, transfers, alloc, ranks, merges, origin, target),
+        Op::Xor => fold_by::<XorLaw, _>(xor, transfers, alloc, ranks, merges, origin, target),
+        Op::First => fold_by::<FirstLaw, _>(first, transfers, alloc, ranks, merges, origin, target),
+        Op::Last => fold_by::<LastLaw, _>(last, transfers, alloc, ranks, merges, origin, target),
     }
 }

@@ -14,7 +14,7 @@ ghost use Rattle.dt_machine.specs.Step.{Step, Obeys, with_piece};
 ghost use Rattle.dt_reply.specs.Reply.{Gives, Responds, text_of};
 ghost use Rattle.dt_reply.specs.declared.reply.Reply.TheVariants.{Refused};
 
-use crate::combining::{reduce_in, reduce_ranks_in};
+use crate::combining::{fold_in, reduce_in};
 use crate::limits::{MOST_MADE, MOST_TYPES};
 use crate::outcome::{Change, Outcome};
 use crate::state::Totals;
@@ -281,7 +281,7 @@ impl Machine {
                 merges,
                 origin,
                 target,
-            } => reduce_ranks_in(
+            } => fold_in(
                 &mut self.transfers,
                 self.alloc,
                 op,

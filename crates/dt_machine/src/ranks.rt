@@ -9,6 +9,7 @@ ghost use Rattle.dt_machine.specs.Sides.{is_some_lost};
 ghost use Rattle.dt_map.specs.Elements.{elements};
 ghost use Rattle.dt_map.specs.Packed.{total};
 ghost use Rattle.dt_names.specs.declared.kept.Kept.{Kept as KeptValue};
+ghost use Rattle.dt_reduce.specs.declared.fault.RanksFault.TheVariants as RanksFault;
 ghost use Rattle.dt_reduce.specs.Merges.{Bracket};
 ghost use Rattle.dt_script.specs.declared.command.Command.TheVariants.{Reduceall};
 ghost use Rattle.dt_type.specs.Datatype.{typemap_of};
@@ -50,6 +51,16 @@ fn merges_of(alloc: Global, how: How, ranks: usize) -> Result<Items<u32>, NoMemo
             merges.resize(ranks - 1, 0)?;
             Ok(Items::from_vec(merges))
         }
+    }
+}
+
+/// The fault that is want of memory.
+fn only_memory(fault: RanksFault) -> NoMemory
+    requires { fault ≡ RanksFault.NoMemory }
+{
+    match fault {
+        RanksFault::NoMemory => NoMemory,
+        _ => unreachable!(),
     }
 }
 
@@ -99,10 +110,8 @@ impl Machine {
             let Some(bytes) = self.buffer(name) else {
                 unreachable!()
             };
-            match ranks.add(origin, bytes) {
-                Ok(()) => {}
-                Err(RanksFault::NoMemory) => return Err(NoMemory),
-                Err(_) => unreachable!(),
+            if let Err(fault) = ranks.add(origin, bytes) {
+                return Err(only_memory(fault));
             }
         }
         Ok(ranks)
