@@ -1,6 +1,5 @@
 -- What the program answers.
 use Rattle.std.specs.Prelude.{◌≡◌, ◌≢◌, ℕ, ◌≤◌, Bool, true, false, List, [], ◌++◌, length, Option, Some, IfSome, MatchOption, if◌then◌else◌}
-use Rattle.std.specs.Option.{option_map_or}
 use Rattle.dt_base.specs.declared.source.TheConstants.{READ_MAX}
 use Rattle.dt_base.specs.Counter.{counted}
 use Rattle.dt_machine.specs.Answers.{Run, Answers, text_of_all}
@@ -15,7 +14,7 @@ use Rattle.dtt.specs.declared.words.Asked.{Asked}
 use Rattle.dtt.specs.declared.words.Asked.TheVariants as form
 use Rattle.dtt.specs.declared.status.Status.{Status}
 use Rattle.dtt.specs.declared.status.Status.TheVariants.{Done, Refused, Usage, ReadFault, WriteFault, NoMemory, TooLong}
-use Rattle.dtt.specs.Words.{Ask, asked_by, reads, words_for}
+use Rattle.dtt.specs.Words.{Ask, reads_for, words_for}
 
 -- the call was answered
 abbrev pub IsAnswer : Status → Type 0
@@ -94,10 +93,6 @@ IsShortFor asked input text _ = ⊥
 
 abbrev pub IsShort : List (List ℕ) → List ℕ → List ℕ → Status → Type 0
 IsShort words input text status = (asked : Asked) × Ask words asked × IsShortFor asked input text status
-
--- whether the source is read for what the words ask for
-abbrev pub reads_for : List (List ℕ) → Bool
-reads_for words = option_map_or reads (asked_by words) false
 
 -- the input that is answered, where the source tells its bytes; where it isn't read, any input will do
 abbrev pub input_of : List (List ℕ) → Option (List ℕ) → Option (List ℕ)

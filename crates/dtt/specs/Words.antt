@@ -1,6 +1,6 @@
 -- The words of the command line, and what they ask for.
 use Rattle.std.specs.Prelude.{◌≡◌, ℕ, ◌<◌, ◌^◌, Bool, true, false, IsTrue, List, [], ◌∷◌, Option, Some, None, codes, decimal, bytes_eq, if◌then◌else◌}
-use Rattle.std.specs.Option.{option_map}
+use Rattle.std.specs.Option.{option_map, option_map_or}
 use Rattle.dt_script.specs.Name.{is_name, name_of}
 use Rattle.dt_verdict.specs.Number.{natural_in}
 use Rattle.dtt.specs.declared.words.Asked.{Asked}
@@ -39,7 +39,7 @@ reads Check = true
 reads Migrate = true
 reads (Gen n) = false
 
--- what words ask for, word by word
+-- what words ask for, if they are of one of the forms, found word by word
 abbrev pub number_of : List ℕ → Option ℕ
 number_of word = natural_in 4294967295 word
 
@@ -61,3 +61,7 @@ asked_by [] = None
 asked_by (word ∷ []) = alone word
 asked_by (word ∷ other ∷ []) = asked_with word other
 asked_by (word ∷ other ∷ more ∷ words) = None
+
+-- whether the source is read for what the words ask for
+abbrev pub reads_for : List (List ℕ) → Bool
+reads_for words = option_map_or reads (asked_by words) false
