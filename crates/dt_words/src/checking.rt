@@ -10,7 +10,7 @@ use itoa::Buffer;
 use std::alloc::Global;
 
 /// Appends a space and a number.
-fn push_number(line: &mut Vec<u8>, number: u64) -> Result<(), NoMemory>
+pub(crate) fn push_number(line: &mut Vec<u8>, number: u64) -> Result<(), NoMemory>
     ensures { OnOk result (line.new.items ≡ line.old.items ++ spaced_number number) }
 {
     let mut digits = Buffer::new();

@@ -4,11 +4,13 @@
 mod certificate;
 pub mod certifying;
 pub mod checking;
+pub mod generating;
 pub mod migrating;
 mod script;
 
 pub use certifying::certify;
 pub use checking::check;
+pub use generating::generated;
 pub use migrating::migrate;
 
 /// What is written, and whether it tells of no refusal.

@@ -1,5 +1,5 @@
 -- A run goes on by one line, ends, or is cut short.
-use Rattle.std.proofs.Common.{◌≡◌, ℕ, Bool, true, ◌&&◌, List, [], ◌∷◌, ◌++◌, take, drop, Option, Some, None, refl, ap, sym, subst, ◌∙◌, append_assoc, take-append-drop}
+use Rattle.std.proofs.Common.{◌≡◌, ℕ, Bool, true, ◌&&◌, List, [], ◌∷◌, ◌++◌, take, drop, Option, Result, Ok, Err, IfOk, refl, ap, sym, subst, ◌∙◌, append_assoc, take-append-drop}
 use Rattle.std.proofs.KnownBytes.{Appends-nil, Appends-trans}
 use Rattle.std.proofs.Math.Bool.{and-true}
 use Rattle.std.proofs.lemmas.Grind.{flat_map-append}
@@ -13,8 +13,15 @@ use Rattle.dt_machine.specs.Reply.{text_of, is_accepted, Responds}
 use Rattle.dt_reply.specs.declared.reply.Reply.{Reply}
 use Rattle.dt_machine.specs.State.{State, first_state}
 use Rattle.dt_machine.specs.Step.{Step}
-use Rattle.dtt.specs.Progress.{Progress}
-use Rattle.dtt.specs.Result.{IsFront, WhereTold, Gained}
+use Rattle.dt_kinds.specs.declared.memory.NoMemory as memory
+use Rattle.dt_words.specs.declared.Said.{Said}
+use Rattle.dt_words.specs.Generated.{IsGenerated}
+use Rattle.dtt.specs.declared.status.Status.{Status}
+use Rattle.dtt.specs.declared.status.Status.TheVariants.{Done, Refused, WriteFault, NoMemory}
+use Rattle.dtt.specs.declared.words.Asked.{Asked}
+use Rattle.dtt.specs.declared.words.Asked.TheVariants as form
+use Rattle.dtt.specs.Progress.{Progress, Wrote, WroteSaid}
+use Rattle.dtt.specs.Result.{IsFront, IsFrontOf, IsShortFor, Says}
 
 -- one line more
 run_more : (s t u : State) (lines : List (List ℕ)) (replies : List Reply) (line : List ℕ) (reply : Reply)
@@ -97,20 +104,68 @@ cut_in_reply input rest line after s t accepted said old mid new out p cut (repl
     )
 
 -- where nothing was written, that is a front of the replies
-pub nothing_written : (left held : Option (List ℕ)) → WhereTold left held (λ input before. Gained held before (λ text. IsFront input text))
-nothing_written None held = tt
-nothing_written (Some input) None = tt
-nothing_written (Some input) (Some before) = (
-  [],
-  ap (λ x. Some x) (sym (append-nil before)),
-  record {
-    lines = [];
-    later = script_lines input;
-    split = refl;
-    replies = [];
-    last = first_state;
-    run = refl;
-    unwritten = [];
-    written = refl;
-  },
-)
+nothing_run : (input : List ℕ) → IsFront input []
+nothing_run input = record {
+  lines = [];
+  later = script_lines input;
+  split = refl;
+  replies = [];
+  last = first_state;
+  run = refl;
+  unwritten = [];
+  written = refl;
+}
+
+cut_said : (asked : Asked) (input whole : List ℕ) (accepted : Bool) (n : ℕ) → Says asked input whole accepted → IsFrontOf asked input (take n whole)
+cut_said asked input whole accepted n says = record {
+  accepted = accepted;
+  unwritten = drop n whole;
+  says = subst (λ x. Says asked input x accepted) (sym (take-append-drop n whole)) says;
+}
+
+-- and what belongs to each other word, where memory ran out
+pub nothing_short : (asked : Asked) (input : List ℕ) → IsShortFor asked input [] NoMemory
+nothing_short form.Run input = nothing_run input
+nothing_short (form.Certify name) input = refl
+nothing_short form.Check input = refl
+nothing_short form.Migrate input = refl
+nothing_short (form.Gen n) input = refl
+
+-- another word than `run`
+abbrev pub IsNotRun : Asked → Type 0
+IsNotRun form.Run = ⊥
+IsNotRun (form.Certify name) = Unit {0}
+IsNotRun form.Check = Unit {0}
+IsNotRun form.Migrate = Unit {0}
+IsNotRun (form.Gen n) = Unit {0}
+
+-- a front of what is said
+front_said : (asked : Asked) (input whole : List ℕ) (accepted : Bool) (n : ℕ) → IsNotRun asked → Says asked input whole accepted
+    → IsShortFor asked input (take n whole) WriteFault
+front_said form.Run input whole accepted n not says = absurd not
+front_said (form.Certify name) input whole accepted n not says = cut_said (form.Certify name) input whole accepted n says
+front_said form.Check input whole accepted n not says = cut_said form.Check input whole accepted n says
+front_said form.Migrate input whole accepted n not says = cut_said form.Migrate input whole accepted n says
+front_said (form.Gen m) input whole accepted n not says = cut_said (form.Gen m) input whole accepted n says
+
+-- what is said is written, or a front of it, or nothing
+wrote_of : (asked : Asked) (input : List ℕ) (said : Result Said memory.NoMemory) (status : Status) (old new : Option (List ℕ)) → IsNotRun asked
+    → IfOk said (λ s. Says asked input s.text.items s.accepted) → WroteSaid said status old new → Wrote asked input status old new
+wrote_of asked input (Ok s) Done old new not says (accepted, writes) = (s.text.items, writes, subst (Says asked input s.text.items) accepted says)
+wrote_of asked input (Ok s) Refused old new not says (accepted, writes) = (s.text.items, writes, subst (Says asked input s.text.items) accepted says)
+wrote_of asked input (Ok s) WriteFault old new not says (n, small, writes) =
+    (take n s.text.items, writes, front_said asked input s.text.items s.accepted n not says)
+wrote_of asked input (Err error) NoMemory old new not says same =
+    ([], subst (λ x. Appends old x []) (sym same) (Appends-nil old), nothing_short asked input)
+wrote_of asked input said status old new not says wrote = absurd wrote
+
+pub wrote_said : (asked this : Asked) (input : List ℕ) (said : Result Said memory.NoMemory) (status : Status) (old new : Option (List ℕ)) → asked ≡ this → IsNotRun this
+    → IfOk said (λ s. Says this input s.text.items s.accepted) → WroteSaid said status old new → Wrote asked input status old new
+wrote_said asked this input said status old new is not says wrote =
+    subst (λ a. Wrote a input status old new) (sym is) (wrote_of this input said status old new not says wrote)
+
+-- what was counted tells of no refusal
+pub counted_is : (n : ℕ) (said : Result Said memory.NoMemory) (status : Status) (old new : Option (List ℕ)) → IfOk said (λ s. IsGenerated n s.text.items s.accepted)
+    → WroteSaid said status old new → status ≡ Refused → ⊥
+counted_is n (Ok s) status old new told wrote is = let w = subst (λ x. WroteSaid (Ok s) x old new) is wrote in cc (w.0, told.told)
+counted_is n (Err error) status old new told wrote is = absurd (subst (λ x. WroteSaid (Err error) x old new) is wrote)

@@ -1,13 +1,17 @@
--- How far a run has come. No public clause cites this module.
-use Rattle.std.specs.Prelude.{◌≡◌, ℕ, Bool, true, false, List, ◌++◌, Option}
+-- How far a run has come, and what was written. No public clause cites this module.
+use Rattle.std.specs.Prelude.{◌≡◌, ℕ, Bool, true, false, List, ◌++◌, Option, Result, Ok, Err}
 use Rattle.std.specs.Io.KnownBytes.{Appends}
-use Rattle.dt_machine.specs.Answers.{Run, Answers, text_of_all, are_accepted}
+use Rattle.dt_base.specs.Transfer.{AppendsFront}
+use Rattle.dt_kinds.specs.declared.memory.NoMemory as memory
+use Rattle.dt_machine.specs.Answers.{Run, text_of_all, are_accepted}
 use Rattle.dt_script.specs.Lines.{script_lines}
 use Rattle.dt_reply.specs.declared.reply.Reply.{Reply}
 use Rattle.dt_machine.specs.State.{State, first_state}
+use Rattle.dt_words.specs.declared.Said.{Said}
+use Rattle.dtt.specs.declared.words.Asked.{Asked}
 use Rattle.dtt.specs.declared.status.Status.{Status}
 use Rattle.dtt.specs.declared.status.Status.TheVariants.{Done, Refused, Usage, ReadFault, WriteFault, NoMemory, TooLong}
-use Rattle.dtt.specs.Result.{IsFront}
+use Rattle.dtt.specs.Result.{Says, IsShortFor}
 
 -- the lines before the rest were run and led to this state, and their replies were written
 pub record Progress (input rest : List ℕ) (state : State) (accepted : Bool) (old new : Option (List ℕ)) : Type 0 where
@@ -18,15 +22,23 @@ pub record Progress (input rest : List ℕ) (state : State) (accepted : Bool) (o
   pub written : Appends old new (text_of_all replies)
   pub told : accepted ≡ are_accepted replies
 
--- what a run of an input wrote to a sink, by the status it ended with: all replies, or where it was cut short a front of them
-abbrev pub WroteText : Status → List ℕ → List ℕ → Type 0
-WroteText Done input text = Answers input text true
-WroteText Refused input text = Answers input text false
-WroteText Usage input text = ⊥
-WroteText ReadFault input text = ⊥
-WroteText WriteFault input text = IsFront input text
-WroteText NoMemory input text = IsFront input text
-WroteText TooLong input text = ⊥
+-- what was written for an input, by what is asked and by the status
+abbrev pub WroteText : Asked → Status → List ℕ → List ℕ → Type 0
+WroteText asked Done input text = Says asked input text true
+WroteText asked Refused input text = Says asked input text false
+WroteText asked Usage input text = ⊥
+WroteText asked ReadFault input text = ⊥
+WroteText asked WriteFault input text = IsShortFor asked input text WriteFault
+WroteText asked NoMemory input text = IsShortFor asked input text NoMemory
+WroteText asked TooLong input text = ⊥
 
-abbrev pub Wrote : List ℕ → Status → Option (List ℕ) → Option (List ℕ) → Type 0
-Wrote input status old new = (text : List ℕ) × Appends old new text × WroteText status input text
+abbrev pub Wrote : Asked → List ℕ → Status → Option (List ℕ) → Option (List ℕ) → Type 0
+Wrote asked input status old new = (text : List ℕ) × Appends old new text × WroteText asked status input text
+
+-- what was written of what was said, by the status
+abbrev pub WroteSaid : Result Said memory.NoMemory → Status → Option (List ℕ) → Option (List ℕ) → Type 0
+WroteSaid (Ok said) Done old new = (said.accepted ≡ true) × Appends old new said.text.items
+WroteSaid (Ok said) Refused old new = (said.accepted ≡ false) × Appends old new said.text.items
+WroteSaid (Ok said) WriteFault old new = AppendsFront old new said.text.items
+WroteSaid (Err error) NoMemory old new = new ≡ old
+WroteSaid said status old new = ⊥

@@ -3,12 +3,15 @@
 
 mod call;
 #[cfg(test)]
+mod certificates;
+#[cfg(test)]
 mod limits;
 mod status;
 #[cfg(test)]
 mod tests;
 #[cfg(test)]
 mod totals;
+mod words;
 
 use call::dtt;
 use dt_base::{StdSink, StdSource};
@@ -43,7 +46,7 @@ fn main(rt: HostRuntime) -> ExitCode {
         Err(status) => status,
     };
     if let Status::Usage = status {
-        let _ = eprintln!(rt; "usage: dtt run");
+        let _ = eprintln!(rt; "usage: dtt run | certify NAME | check | migrate | gen N");
     }
     ExitCode::from(status as u8)
 }

@@ -6,9 +6,14 @@ use std::test::Fail;
 
 /// The exit status of a run of a script without faults, and what it wrote.
 pub(crate) fn replies(alloc: Global, script: &[u8]) -> Result<(u8, Vec<u8>), Fail> {
+    answered(alloc, "run", script)
+}
+
+/// The exit status that words end with without faults, and what was written.
+pub(crate) fn answered(alloc: Global, words: &str, input: &[u8]) -> Result<(u8, Vec<u8>), Fail> {
     let outside = Outside {
-        word: "run",
-        input: script,
+        words,
+        input,
         most: 65_536,
         failing_reads: &[],
         failing_writes: &[],
@@ -20,18 +25,18 @@ pub(crate) fn replies(alloc: Global, script: &[u8]) -> Result<(u8, Vec<u8>), Fai
 /// What a run is given: its words, its input, and the numbers of the reads and writes that fail. Reads and writes move
 /// at most `most` bytes.
 #[derive(Drop)]
-struct Outside<'a> {
-    word: &'a str,
-    input: &'a [u8],
-    most: usize,
-    failing_reads: &'a [u64],
-    failing_writes: &'a [u64],
+pub(crate) struct Outside<'a> {
+    pub(crate) words: &'a str,
+    pub(crate) input: &'a [u8],
+    pub(crate) most: usize,
+    pub(crate) failing_reads: &'a [u64],
+    pub(crate) failing_writes: &'a [u64],
 }
 
 /// The exit status of a run, what it wrote, and how many bytes it left unread.
-fn ended(alloc: Global, outside: &Outside<'_>) -> Result<(u8, Vec<u8>, usize), Fail> {
+pub(crate) fn ended(alloc: Global, outside: &Outside<'_>) -> Result<(u8, Vec<u8>, usize), Fail> {
     let mut words = Vec::new(alloc);
-    for word in outside.word.split_whitespace() {
+    for word in outside.words.split_whitespace() {
         words.push(String::from_str(alloc, word)?)?;
     }
     let most = outside.most.max(1);
@@ -93,7 +98,7 @@ bytes native 1 MPI_INT c 0\nbytes external 1 MPI_BYTE b 0\nbytes native 1 MPI_IN
     for (input, status, text) in rows {
         for most in [1, 7, 4096] {
             let outside = Outside {
-                word: "run",
+                words: "run",
                 input,
                 most,
                 failing_reads: &[],
@@ -114,7 +119,7 @@ fn faults(rt: HostRuntime) -> Result<(), Fail> {
     // 70 bytes by tens and the end: eight reads, of which each fails in turn.
     for number in 0..8u64 {
         let outside = Outside {
-            word: "run",
+            words: "run",
             input: FIRST,
             most: 10,
             failing_reads: &[number],
@@ -128,7 +133,7 @@ fn faults(rt: HostRuntime) -> Result<(), Fail> {
     let written = [0, 3, 6, 10, 14, 18, 22, 26, 30];
     for (number, len) in written.into_iter().enumerate() {
         let outside = Outside {
-            word: "run",
+            words: "run",
             input: FIRST,
             most: 4,
             failing_reads: &[],
@@ -142,19 +147,43 @@ fn faults(rt: HostRuntime) -> Result<(), Fail> {
     Ok(())
 }
 
+/// Words of none of the forms: nothing is read or written.
 #[test]
 fn other_words(rt: HostRuntime) -> Result<(), Fail> {
     let alloc = rt.alloc();
-    for word in ["run x", "", "runs", "certify a", "check", "gen 1"] {
+    let rows = [
+        "",
+        "run x",
+        "runs",
+        "Run",
+        "check x",
+        "migrate x",
+        "x",
+        "certify",
+        "certify a b",
+        "certify 1a",
+        "certify a-b",
+        "certify abcdefghijklmnopqrstuvwxyz0123456",
+        "gen",
+        "gen 1 2",
+        "gen 01",
+        "gen 00",
+        "gen +1",
+        "gen -1",
+        "gen 1x",
+        "gen 4294967296",
+        "gen 18446744073709551617",
+    ];
+    for words in rows {
         let outside = Outside {
-            word,
+            words,
             input: FIRST,
             most: 10,
             failing_reads: &[0],
             failing_writes: &[0],
         };
         let (status, wrote, left) = ended(alloc, &outside)?;
-        assert_eq!(rt; status, 2, "words {word}");
+        assert_eq!(rt; status, 2, "words {words}");
         assert!(rt; wrote.is_empty());
         assert_eq!(rt; left, FIRST.len());
     }
@@ -167,7 +196,7 @@ fn the_limit(rt: HostRuntime) -> Result<(), Fail> {
     for (len, status) in [(16_777_216, 0), (16_777_217, 6)] {
         let input = vec![in alloc; 32u8; len]?;
         let outside = Outside {
-            word: "run",
+            words: "run",
             input: input.as_slice(),
             most: 65_536,
             failing_reads: &[],
