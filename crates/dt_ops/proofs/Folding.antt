@@ -1,5 +1,5 @@
 -- Values that are joined in their order: neighbours may be joined first, where the operation is associative on them.
-use Rattle.std.proofs.Common.{◌≡◌, Option, Some, None, List, [], ◌∷◌, ◌++◌, refl, sym, ap, ◌∙◌}
+use Rattle.std.proofs.Common.{◌≡◌, Some, List, [], ◌∷◌, ◌++◌, refl, ap, ◌∙◌}
 use Rattle.std.specs.List.{AllByRecursion, fold, reduce}
 use Rattle.dt_ops.specs.Bracketing.{IsBracketing, one, two}
 

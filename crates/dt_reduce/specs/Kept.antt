@@ -1,5 +1,5 @@
 -- The packed bytes of ranks, and the words that they are.
-use Rattle.std.specs.Prelude.{◌≡◌, ℕ, ◌≤◌, pos, List, [], ◌∷◌, map, drop, length}
+use Rattle.std.specs.Prelude.{◌≡◌, ℕ, ◌≤◌, ℤ, pos, List, [], ◌∷◌, map, drop, length}
 use Rattle.std.specs.Global.{Vec}
 use Rattle.std.specs.List.{AllByRecursion}
 use Rattle.byteorder.specs.Endian.{little_number}
@@ -8,11 +8,13 @@ use Rattle.dt_kinds.specs.declared.kind.Kind.{Kind}
 use Rattle.dt_kinds.specs.declared.kind.Rep.TheVariants.{Native}
 use Rattle.dt_kinds.specs.Kind.{native_size}
 use Rattle.dt_map.specs.declared.entry.Entry.{Entry}
-use Rattle.dt_map.specs.Elements.{elements}
+use Rattle.dt_map.specs.Elements.{elements, Overlaps}
 use Rattle.dt_map.specs.Packed.{total}
 use Rattle.dt_map.specs.Typemap.{Marked}
 use Rattle.dt_reduce.specs.Folded.{kinds_of, joined_row, bytes_of_row}
-use Rattle.dt_reduce.specs.Ranks.{Ranked, elements_at, bytes_of}
+use Rattle.dt_reduce.specs.Ranks.{Ranked, elements_at, bytes_of, AreInside}
+use Rattle.dt_reduce.specs.declared.fault.AllFault.{AllFault}
+use Rattle.dt_reduce.specs.declared.fault.AllFault.TheVariants as all
 
 -- the words of such kinds that bytes are, one after another
 abbrev pub row_of : List Kind → List ℕ → List ℕ
@@ -44,3 +46,10 @@ pub record AreKept (r : Ranked) (stored : List (Vec ℕ)) : Type 0 where
   pub few : length stored ≤ 1024
   pub small : bytes_of r (length stored) ≤ 16777216
   pub packed : ArePackedRows (elements_at r (pos 0)) stored
+
+-- why there is no session over the elements
+abbrev pub IsNoTarget : Ranked → ℤ → ℕ → AllFault → Type 0
+IsNoTarget r origin len all.Outside = ¬ AreInside r origin len
+IsNoTarget r origin len all.Overlap = AreInside r origin len × Overlaps (elements_at r origin)
+IsNoTarget r origin len all.NoMemory = AreInside r origin len
+IsNoTarget r origin len fault = ⊥

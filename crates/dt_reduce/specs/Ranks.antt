@@ -77,10 +77,3 @@ AreNotReduced r merges origin len (all.BadMerge at) = (0 < length r.rows) × Sho
 AreNotReduced r merges origin len all.Outside = AreBracketed r merges × ¬ AreInside r origin len
 AreNotReduced r merges origin len all.Overlap = ArePlaced r merges origin len × Overlaps (elements_at r origin)
 AreNotReduced r merges origin len all.NoMemory = ArePlaced r merges origin len
-
--- why there is no session over the elements
-abbrev pub IsNoTarget : Ranked → ℤ → ℕ → AllFault → Type 0
-IsNoTarget r origin len all.Outside = ¬ AreInside r origin len
-IsNoTarget r origin len all.Overlap = AreInside r origin len × Overlaps (elements_at r origin)
-IsNoTarget r origin len all.NoMemory = AreInside r origin len
-IsNoTarget r origin len fault = ⊥

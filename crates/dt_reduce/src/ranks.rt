@@ -4,9 +4,9 @@ ghost use Rattle.dt_kinds.specs.declared.kind.Rep.TheVariants.{Native};
 ghost use Rattle.dt_map.specs.Elements.{Overlaps};
 ghost use Rattle.dt_map.specs.Packed.{total};
 ghost use Rattle.dt_reduce.specs.Folded.{kinds_of, joined_row, folded_bytes};
-ghost use Rattle.dt_reduce.specs.Kept.{rows_of, ArePackedRows};
+ghost use Rattle.dt_reduce.specs.Kept.{rows_of, ArePackedRows, IsNoTarget};
 ghost use Rattle.dt_reduce.specs.Merges.{Bracket, merged};
-ghost use Rattle.dt_reduce.specs.Ranks.{without_ranks, elements_at, with_rank, bytes_of, AreInside, CanAdd, IsNotAdded, IsNoTarget};
+ghost use Rattle.dt_reduce.specs.Ranks.{without_ranks, elements_at, with_rank, bytes_of, AreInside, CanAdd, IsNotAdded};
 ghost use Rattle.dt_type.specs.Datatype.{typemap_of};
 ghost use Rattle.dt_unpack.specs.Session.{opened, placed};
 
