@@ -23,7 +23,7 @@ use Rattle.dt_script.specs.declared.command.Command.{Command}
 use Rattle.dt_script.specs.declared.command.Command.TheVariants.{Copy as CopyCommand}
 use Rattle.dt_machine.specs.declared.outcome.Change.TheVariants.{CopyBytes}
 use Rattle.dt_machine.specs.Operation.{both_row, AreMissing, IsUncopied}
-use Rattle.dt_machine.specs.Outcome.{CanChange, CanMake, IsStop, changed, with_made}
+use Rattle.dt_machine.specs.Outcome.{CanChange, CanMake, IsStop, changed, made_in}
 use Rattle.dt_machine.specs.Refusal.{IsRefusedBy, IsAllowed}
 use Rattle.dt_machine.specs.Row.{IsFirst, IsClear}
 use Rattle.dt_machine.specs.Sides.{Side, side, is_side_unknown, IsNotCommitted, OfBoth, OfCopy, Differ, copy_between}
@@ -284,7 +284,9 @@ module _ (s : State) (source_count : ℤ) (source_type source : List ℕ) (sourc
 
         pub copy_performs : Performs copies s (Copied (length the_copy.source) (total Native the_copy.source)) (with_count (changed (CopyBytes the_copy source target) s))
         copy_performs =
-            let made : with_made s target (under source s.buffers) (under target s.buffers) (copied the_copy.source the_copy.target) ≡ with_bytes s target (copied the_copy.source the_copy.target old held) =
-            ap (λ o. with_made s target o (under target s.buffers) (copied the_copy.source the_copy.target)) there
-            ∙ ap (λ o. with_made s target (Some old) o (copied the_copy.source the_copy.target)) here
+            let of : Option (List ℕ) → Option (List ℕ) → State =
+            λ o p. record s { buffers = made_in s.buffers target o p (copied the_copy.source the_copy.target) }
+            in
+            let made : changed (CopyBytes the_copy source target) s ≡ with_bytes s target (copied the_copy.source the_copy.target old held) =
+            ap (λ o. of o (under target s.buffers)) there ∙ ap (of (Some old)) here
             in (from, onto, old, held, one, other, there, here, (refl, ap with_count made))

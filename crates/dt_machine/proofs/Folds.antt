@@ -1,5 +1,5 @@
 -- When ranks are reduced, and what comes of it.
-use Rattle.std.proofs.Common.{◌≡◌, ℕ, ℤ, pos, nat_abs, Bool, true, false, ◌||◌, not, List, ◌∷◌, map, length, Some, None, IsTrue, refl, sym, ap, subst, ◌∙◌}
+use Rattle.std.proofs.Common.{◌≡◌, ℕ, ℤ, pos, nat_abs, Bool, true, false, ◌||◌, not, List, ◌∷◌, map, length, Option, Some, None, IsTrue, refl, sym, ap, subst, ◌∙◌}
 use Rattle.std.proofs.lemmas.Bool.{or_from, or_left, or_right}
 use Rattle.std.specs.List.{list_any}
 use Rattle.std.specs.Option.{is_none, option_map_or, IsSomeAnd}
@@ -27,7 +27,7 @@ use Rattle.dt_script.specs.declared.command.Op.{Op}
 use Rattle.dt_machine.specs.declared.outcome.Change.TheVariants.{ReduceRanks}
 use Rattle.dt_machine.specs.Joins.{join_of}
 use Rattle.dt_machine.specs.Operation.{counted_row, ranks_in, Gathers}
-use Rattle.dt_machine.specs.Outcome.{CanChange, IsStop, changed, with_set}
+use Rattle.dt_machine.specs.Outcome.{CanChange, IsStop, changed, set_in}
 use Rattle.dt_machine.specs.Refusal.{elements_of, lies_outside, AreTooMany, IsRefusedBy, IsAllowed}
 use Rattle.dt_machine.specs.Row.{IsFirst, IsClear}
 use Rattle.dt_machine.specs.Sides.{is_some_lost, IsNotCommitted}
@@ -169,5 +169,6 @@ module _ (s : State) (op : Op) (how : How) (count : ℤ) (ty : List ℕ) (origin
       ranks_perform ranks merges (buffers, all, rows) =
           let r = ranks_in (typemap_of kept.ty) (nat_abs count) origin buffers in
           let makes = folded (join_of op) es (map (words_of es) buffers) in
-          let made : with_set s target (under target s.buffers) makes ≡ with_bytes s target (makes held) = ap (λ o. with_set s target o makes) here in
+          let of : Option (List ℕ) → State = λ o. record s { buffers = set_in s.buffers target o makes } in
+          let made : changed (ReduceRanks op r merges origin target) s ≡ with_bytes s target (makes held) = ap of here in
           (kept, held, buffers, is, here, all, (refl, ap (λ x. with_count (changed (ReduceRanks op x merges origin target) s)) rows ∙ ap with_count made))

@@ -1,3 +1,4 @@
+pub mod Buffers
 pub mod Copies
 pub mod Definitions
 pub mod Fills

@@ -125,7 +125,7 @@ with_reduced s op target es fs old held = with_count (with_bytes s target (reduc
 reduces_one : (s : State) (op : Op) (count : ℤ) (ty source : List ℕ) (source_origin : ℤ) (target : List ℕ) (target_origin : ℤ) (t u : State) (reply other : Reply)
     → let command = Reduce op count ty source source_origin target target_origin in
     Performs command s reply t → Performs command s other u → IsOne reply other t u
-reduces_one s op count ty source source_origin target target_origin t u reply other (kept, old, held, a, b, c, said, new) (kept2, old2, held2, d, e, f, told, now) =
+reduces_one s op count ty source source_origin target target_origin t u reply other (kept, old, held, a, b, c, (said, new)) (kept2, old2, held2, d, e, f, (told, now)) =
     let one : kept ≡ kept2 = some_same kept kept2 (sym a ∙ d) in
     let two : old ≡ old2 = some_same old old2 (sym b ∙ e) in
     let three : held ≡ held2 = some_same held held2 (sym c ∙ f) in

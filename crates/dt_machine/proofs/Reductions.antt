@@ -1,5 +1,5 @@
 -- When elements are reduced, and what comes of it.
-use Rattle.std.proofs.Common.{◌≡◌, ℕ, ◌≤◌, ◌<◌, ℤ, pos, nat_abs, true, false, ◌||◌, List, [], ◌∷◌, length, Some, None, IsTrue, inl, inr, refl, ap, subst, ◌∙◌, arith}
+use Rattle.std.proofs.Common.{◌≡◌, ℕ, ◌≤◌, ◌<◌, ℤ, pos, nat_abs, true, false, ◌||◌, List, [], ◌∷◌, length, Option, Some, None, IsTrue, inl, inr, refl, ap, subst, ◌∙◌, arith}
 use Rattle.std.proofs.lemmas.Bool.{cases_lt, or_from, or_left, or_right}
 use Rattle.std.proofs.lemmas.List.Sums.{sum_by-cons}
 use Rattle.std.specs.Option.{is_none, IsSomeAnd}
@@ -31,7 +31,7 @@ use Rattle.dt_script.specs.declared.command.Op.{Op}
 use Rattle.dt_machine.specs.declared.outcome.Change.TheVariants.{ReduceBytes}
 use Rattle.dt_machine.specs.Joins.{join_of}
 use Rattle.dt_machine.specs.Operation.{counted_row, IsUnreduced}
-use Rattle.dt_machine.specs.Outcome.{CanChange, IsStop, changed, with_made}
+use Rattle.dt_machine.specs.Outcome.{CanChange, IsStop, changed, made_in}
 use Rattle.dt_machine.specs.Refusal.{IsRefusedBy, IsAllowed}
 use Rattle.dt_machine.specs.Row.{IsFirst, IsClear}
 use Rattle.dt_machine.specs.Sides.{Side, side, is_side_unknown, IsNotCommitted, OfReduction, reduction_between}
@@ -191,6 +191,7 @@ module _ (s : State) (op : Op) (count : ℤ) (ty source : List ℕ) (source_orig
       pub reduce_performs : Performs reduces s (Reduced (length the_reduction.target)) (with_count (changed (ReduceBytes op the_reduction source target) s))
       reduce_performs =
           let makes = reduced (join_of op) the_reduction.source the_reduction.target in
-          let made : with_made s target (under source s.buffers) (under target s.buffers) makes ≡ with_bytes s target (makes old held) =
-          ap (λ o. with_made s target o (under target s.buffers) makes) there ∙ ap (λ o. with_made s target (Some old) o makes) here
+          let of : Option (List ℕ) → Option (List ℕ) → State = λ o p. record s { buffers = made_in s.buffers target o p makes } in
+          let made : changed (ReduceBytes op the_reduction source target) s ≡ with_bytes s target (makes old held) =
+          ap (λ o. of o (under target s.buffers)) there ∙ ap (of (Some old)) here
           in (kept, old, held, is, there, here, (refl, ap with_count made))

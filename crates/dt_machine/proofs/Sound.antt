@@ -230,7 +230,7 @@ performs_sound (CopyCommand source_count source_type source source_origin target
     subst IsSound (sym new) (keeps s sound target held d into (length_copied (copy_between of to from onto old held) old held refl refl can) (with_count s).totals.commands)
 performs_sound (Export ty) s t reply sound may (kept, a, said, new) = like s t _ sound new same
 performs_sound (Import name wire) s t reply sound may (form, a, said, new) = like s t _ sound new same
-performs_sound (Reduce op count ty source source_origin target target_origin) s t reply sound may (kept, old, held, a, b, c, said, new) =
+performs_sound (Reduce op count ty source source_origin target target_origin) s t reply sound may (kept, old, held, a, b, c, (said, new)) =
     let clear = (allowed_is_clear s (Reduce op count ty source source_origin target target_origin)).0 may in
     let into = reduced (join_of op) (elements_of kept count source_origin) (elements_of kept count target_origin) old held in
     let holds = of_reduction s op count ty source source_origin target target_origin old held b c kept a in

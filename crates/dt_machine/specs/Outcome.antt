@@ -1,5 +1,9 @@
 -- What a command comes to before anything changes. No public clause cites this module.
+use Rattle.std.specs.BTreeMap.{is_at}
+use Rattle.std.specs.Cmp.Lexicographic.{slice_cmp}
+use Rattle.std.specs.Map.{set_value}
 use Rattle.std.specs.Option.{IsSomeAnd}
+use Rattle.std.specs.Ordering.{nat_cmp}
 use Rattle.std.specs.Prelude.{◌≡◌, ◌≢◌, length, true, false, IsTrue, List, ℕ, ◌<◌, Option, Some, None, IsSome, Result, MatchResult}
 use Rattle.dt_copy.specs.Copied.{copied}
 use Rattle.dt_copy.specs.Plan.{Copy}
@@ -22,7 +26,7 @@ use Rattle.dt_names.specs.declared.stop.Stop.TheVariants.{Refused, NoMemory}
 use Rattle.dt_names.specs.declared.kept.Kept.{Kept}
 use Rattle.dt_machine.specs.Refusal.{IsRefusedBy, IsAllowed}
 use Rattle.dt_machine.specs.Joins.{join_of}
-use Rattle.dt_machine.specs.State.{State, with_bytes, with_type, with_committed, without_type, with_buffer, with_session, with_moved, without_session, with_taken, with_weights, with_cost, with_count}
+use Rattle.dt_machine.specs.State.{State, with_type, with_committed, without_type, with_buffer, with_session, with_moved, without_session, with_taken, with_weights, with_cost, with_count}
 use Rattle.dt_names.specs.Names.{under}
 use Rattle.dt_sessions.specs.declared.session.Opened.{Opened}
 use Rattle.dt_sessions.specs.Open.{CanSeek, IsOver, IsSmall}
@@ -42,15 +46,15 @@ abbrev pub with_seek : State → List ℕ → ℕ → Option Opened → State
 with_seek s name byte None = s
 with_seek s name byte (Some opened) = with_moved s name opened byte
 
--- where both buffers stand, the state with what these make of them in the second
-abbrev pub with_made : State → List ℕ → Option (List ℕ) → Option (List ℕ) → (List ℕ → List ℕ → List ℕ) → State
-with_made s name (Some old) (Some held) makes = with_bytes s name (makes old held)
-with_made s name old held makes = s
+-- buffers by name, where both of two stand with what these make of them in the place of the second
+abbrev pub made_in : List (List ℕ × List ℕ) → List ℕ → Option (List ℕ) → Option (List ℕ) → (List ℕ → List ℕ → List ℕ) → List (List ℕ × List ℕ)
+made_in buffers name (Some old) (Some held) makes = set_value (is_at (slice_cmp nat_cmp name)) buffers (makes old held)
+made_in buffers name old held makes = buffers
 
--- where a buffer stands, the state with what is made of it in its place
-abbrev pub with_set : State → List ℕ → Option (List ℕ) → (List ℕ → List ℕ) → State
-with_set s name (Some held) makes = with_bytes s name (makes held)
-with_set s name None makes = s
+-- and where one stands with what is made of it in its place
+abbrev pub set_in : List (List ℕ × List ℕ) → List ℕ → Option (List ℕ) → (List ℕ → List ℕ) → List (List ℕ × List ℕ)
+set_in buffers name (Some held) makes = set_value (is_at (slice_cmp nat_cmp name)) buffers (makes held)
+set_in buffers name None makes = buffers
 
 -- the state behind a change
 abbrev pub changed : Change → State → State
@@ -65,11 +69,12 @@ changed (OpenSession name opened) s = with_session s name opened
 changed (SeekSession name byte) s = with_seek s name byte (under name s.sessions)
 changed (TakeBytes name byte count) s = with_taken (with_seek s name byte (under name s.sessions)) count
 changed (CloseSession name) s = without_session s name
-changed (CopyBytes plan source target) s = with_made s target (under source s.buffers) (under target s.buffers) (copied plan.source plan.target)
+changed (CopyBytes plan source target) s =
+    record s { buffers = made_in s.buffers target (under source s.buffers) (under target s.buffers) (copied plan.source plan.target) }
 changed (ReduceBytes op plan source target) s =
-    with_made s target (under source s.buffers) (under target s.buffers) (reduced (join_of op) plan.source plan.target)
+    record s { buffers = made_in s.buffers target (under source s.buffers) (under target s.buffers) (reduced (join_of op) plan.source plan.target) }
 changed (ReduceRanks op ranks merges origin target) s =
-    with_set s target (under target s.buffers) (folded (join_of op) (elements_at ranks origin) ranks.rows)
+    record s { buffers = set_in s.buffers target (under target s.buffers) (folded (join_of op) (elements_at ranks origin) ranks.rows) }
 
 -- two buffers that differ, and have these lengths
 abbrev pub CanMake : State → List ℕ → List ℕ → ℕ → ℕ → Type 0

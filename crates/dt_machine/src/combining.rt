@@ -1,7 +1,9 @@
-//! Buffers that are reduced with the operation of a word.
+//! Buffers that are changed by others: by copies, and by reductions with the operation of a word.
 ghost use Rattle.std.specs.Option.{IsSomeAnd};
 ghost use Rattle.std.specs.Prelude.{◌≡◌, ◌≢◌, ℕ, List, OnErr, OnOk, Some, length};
+ghost use Rattle.dt_copy.specs.Copied.{copied};
 ghost use Rattle.dt_machine.specs.Joins.{join_of};
+ghost use Rattle.dt_machine.specs.Outcome.{made_in, set_in};
 ghost use Rattle.dt_names.specs.Names.{under};
 ghost use Rattle.dt_ops.specs.Stored.{Joins, TakesWords};
 ghost use Rattle.dt_reduce.specs.Folded.{folded};
@@ -9,6 +11,7 @@ ghost use Rattle.dt_reduce.specs.Ranks.{CanReduceAll, elements_at};
 ghost use Rattle.dt_reduce.specs.Reduced.{reduced};
 ghost use Rattle.dt_sessions.specs.Open.{StandsWith, with_bytes};
 
+use dt_copy::CopyPlan;
 use dt_kinds::NoMemory;
 use dt_ops::{
     AndLaw, Call, FirstLaw, LastLaw, Law, MaxLaw, MinLaw, OrLaw, ProdLaw, StoredOp, SumLaw, XorLaw,
@@ -40,7 +43,7 @@ fn reduce_by<L: Law, F: Call + Drop>(
 }
 
 /// Reduces the target's elements by the source's, with the operation of a word. It takes no memory.
-pub(crate) fn reduce_in(
+fn reduce_in(
     transfers: &mut Transfers,
     alloc: Global,
     op: Op,
@@ -87,7 +90,7 @@ fn fold_by<L: Law, F: Call + Drop>(
 }
 
 /// Reduces ranks into the target's elements, with the operation of a word. Where memory runs out nothing is changed.
-pub(crate) fn fold_in(
+fn fold_in(
     transfers: &mut Transfers,
     alloc: Global,
     op: Op,
@@ -111,4 +114,54 @@ pub(crate) fn fold_in(
         Op::First => fold_by::<FirstLaw, _>(first, transfers, alloc, ranks, merges, origin, target),
         Op::Last => fold_by::<LastLaw, _>(last, transfers, alloc, ranks, merges, origin, target),
     }
+}
+
+/// Copies a plan's elements from one buffer to another. It takes no memory.
+pub(crate) fn copy_buffers(
+    transfers: &mut Transfers,
+    alloc: Global,
+    plan: &mut CopyPlan,
+    source: &Name,
+    target: &Name,
+)
+    requires apart { source.now ≢ target.now }
+    requires source { StandsWith transfers.old source.now plan.old.source_len }
+    requires target { StandsWith transfers.old target.now plan.old.target_len }
+    ensures { transfers.new ≡ record transfers.old { buffers = made_in transfers.old.buffers target.now (under source.now transfers.old.buffers) (under target.now transfers.old.buffers) (copied plan.old.source plan.old.target) } }
+{
+    transfers.copy(alloc, plan, source, target);
+}
+
+/// Reduces a plan's elements of one buffer by those of another. It takes no memory.
+pub(crate) fn reduce_buffers(
+    transfers: &mut Transfers,
+    alloc: Global,
+    op: Op,
+    plan: &mut ReducePlan,
+    source: &Name,
+    target: &Name,
+)
+    requires apart { source.now ≢ target.now }
+    requires source { StandsWith transfers.old source.now plan.old.source_len }
+    requires target { StandsWith transfers.old target.now plan.old.target_len }
+    ensures { transfers.new ≡ record transfers.old { buffers = made_in transfers.old.buffers target.now (under source.now transfers.old.buffers) (under target.now transfers.old.buffers) (reduced (join_of op) plan.old.source plan.old.target) } }
+{
+    reduce_in(transfers, alloc, op, plan, source, target);
+}
+
+/// Reduces ranks into a buffer. Where memory runs out nothing is changed.
+pub(crate) fn fold_buffers(
+    transfers: &mut Transfers,
+    alloc: Global,
+    op: Op,
+    ranks: &mut Ranks,
+    merges: &[u32],
+    origin: i64,
+    target: &Name,
+) -> Result<(), NoMemory>
+    requires { IsSomeAnd (under target.now transfers.old.buffers) (λ held. CanReduceAll ranks.old merges.now origin (length held)) }
+    ensures ok { OnOk result (transfers.new ≡ record transfers.old { buffers = set_in transfers.old.buffers target.now (under target.now transfers.old.buffers) (folded (join_of op) (elements_at ranks.old origin) ranks.old.rows) }) }
+    ensures err { OnErr result (transfers.new ≡ transfers.old) }
+{
+    fold_in(transfers, alloc, op, ranks, merges, origin, target)
 }

@@ -14,7 +14,7 @@ ghost use Rattle.dt_machine.specs.Step.{Step, Obeys, with_piece};
 ghost use Rattle.dt_reply.specs.Reply.{Gives, Responds, text_of};
 ghost use Rattle.dt_reply.specs.declared.reply.Reply.TheVariants.{Refused};
 
-use crate::combining::{fold_in, reduce_in};
+use crate::combining::{copy_buffers, fold_buffers, reduce_buffers};
 use crate::limits::{MOST_MADE, MOST_TYPES};
 use crate::outcome::{Change, Outcome};
 use crate::state::Totals;
@@ -260,14 +260,14 @@ impl Machine {
                 source,
                 target,
             } => {
-                self.transfers.copy(self.alloc, &mut plan, &source, &target);
+                copy_buffers(&mut self.transfers, self.alloc, &mut plan, &source, &target);
             }
             Change::ReduceBytes {
                 op,
                 mut plan,
                 source,
                 target,
-            } => reduce_in(
+            } => reduce_buffers(
                 &mut self.transfers,
                 self.alloc,
                 op,
@@ -281,7 +281,7 @@ impl Machine {
                 merges,
                 origin,
                 target,
-            } => fold_in(
+            } => fold_buffers(
                 &mut self.transfers,
                 self.alloc,
                 op,

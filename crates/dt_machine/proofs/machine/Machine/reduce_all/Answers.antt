@@ -10,7 +10,7 @@ use Rattle.dt_type.specs.Datatype.{typemap_of}
 use Rattle.dt_machine.specs.declared.outcome.Change.TheVariants.{ReduceRanks}
 use Rattle.dt_machine.specs.Operation.{Gathers}
 use Rattle.dt_machine.specs.Refusal.{elements_of, lies_outside, AreTooMany}
-use Rattle.dt_machine.proofs.Folds.{ ranks_withheld, target_outside, rank_outside, ranks_overlap, ranks_many, ranks_allowed, ranks_can, ranks_perform}
+use Rattle.dt_machine.proofs.Folds.{ranks_withheld, target_outside, rank_outside, ranks_overlap, ranks_many, ranks_allowed, ranks_can, ranks_perform}
 use Rattle.dt_machine.proofs.Outcomes.{outcome_of}
 use Rattle.dt_machine.proofs.Reductions.{few_apart}
 use Rattle.dt_machine.proofs.Rows.{contrary}
