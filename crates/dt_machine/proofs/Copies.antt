@@ -1,11 +1,10 @@
 -- When elements are copied, and what comes of it.
-use Rattle.std.proofs.Common.{◌≡◌, ◌⊎◌, ℕ, ◌≤◌, ◌<◌, ℤ, pos, nat_abs, Bool, true, false, ◌||◌, List, take, length, Option, Some, None, inl, inr, IsTrue, slice_get, refl, sym, ap, subst, ◌∙◌, arith}
-use Rattle.std.proofs.lemmas.Bool.{or_from, or_left, or_right, false_from_ne_true}
+use Rattle.std.proofs.Common.{◌≡◌, ◌⊎◌, ℕ, ◌<◌, ℤ, Bool, true, false, ◌||◌, List, length, Option, Some, None, inl, inr, IsTrue, slice_get, refl, ap, ◌∙◌, arith}
+use Rattle.std.proofs.lemmas.Bool.{or_from, or_left, or_right}
 use Rattle.std.specs.Option.{is_none, IsSomeAnd}
-use Rattle.std.specs.Prelude.{int_lt}
 use Rattle.dt_copy.proofs.Alike.{get-take}
 use Rattle.dt_copy.specs.Copied.{copied, signature}
-use Rattle.dt_copy.specs.Plan.{Copy, AreInside, AreSettable, CanCopy, DifferFirst}
+use Rattle.dt_copy.specs.Plan.{Copy, AreInside, CanCopy, DifferFirst}
 use Rattle.dt_kinds.specs.declared.kind.Rep.TheVariants.{Native}
 use Rattle.dt_kinds.specs.Name.{is_left_out}
 use Rattle.dt_map.specs.Elements.{Overlaps}
@@ -23,10 +22,10 @@ use Rattle.dt_script.specs.declared.command.Command.{Command}
 use Rattle.dt_script.specs.declared.command.Command.TheVariants.{Copy as CopyCommand}
 use Rattle.dt_machine.specs.declared.outcome.Change.TheVariants.{CopyBytes}
 use Rattle.dt_machine.specs.Operation.{both_row, AreMissing, IsUncopied}
-use Rattle.dt_machine.specs.Outcome.{CanChange, CanMake, IsStop, changed, made_in}
+use Rattle.dt_machine.specs.Outcome.{CanChange, IsStop, changed, made_in}
 use Rattle.dt_machine.specs.Refusal.{IsRefusedBy, IsAllowed}
 use Rattle.dt_machine.specs.Row.{IsFirst, IsClear}
-use Rattle.dt_machine.specs.Sides.{Side, side, is_side_unknown, IsNotCommitted, OfBoth, OfCopy, Differ, copy_between}
+use Rattle.dt_machine.specs.Sides.{Side, side, is_side_unknown, IsNotCommitted, OfCopy, Differ, copy_between}
 use Rattle.dt_machine.specs.State.{State, type_of, buffer_of, is_unknown, with_bytes, with_count}
 use Rattle.dt_machine.specs.Step.{Performs}
 use Rattle.dt_machine.proofs.Rows.{refused, allowed, contrary, some_and, and_some}

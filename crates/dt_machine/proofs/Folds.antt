@@ -1,9 +1,8 @@
 -- When ranks are reduced, and what comes of it.
-use Rattle.std.proofs.Common.{◌≡◌, ℕ, ℤ, pos, nat_abs, Bool, true, false, ◌||◌, not, List, ◌∷◌, map, length, Option, Some, None, IsTrue, refl, sym, ap, subst, ◌∙◌}
+use Rattle.std.proofs.Common.{◌≡◌, ℕ, ℤ, nat_abs, true, false, ◌||◌, not, List, ◌∷◌, map, length, Option, Some, None, IsTrue, refl, sym, ap, subst, ◌∙◌}
 use Rattle.std.proofs.lemmas.Bool.{or_from, or_left, or_right}
 use Rattle.std.specs.List.{list_any}
 use Rattle.std.specs.Option.{is_none, option_map_or, IsSomeAnd}
-use Rattle.std.specs.Prelude.{int_lt}
 use Rattle.dt_kinds.specs.Name.{is_left_out}
 use Rattle.dt_map.specs.declared.entry.Entry.{Entry}
 use Rattle.dt_map.specs.Elements.{are_inside, Overlaps}
@@ -34,7 +33,7 @@ use Rattle.dt_machine.specs.Sides.{is_some_lost, IsNotCommitted}
 use Rattle.dt_machine.specs.State.{State, type_of, buffer_of, is_unknown, with_bytes, with_count}
 use Rattle.dt_machine.specs.Step.{Performs}
 use Rattle.dt_machine.proofs.Copies.{neither}
-use Rattle.dt_machine.proofs.Gathered.{all_inside, rows_gathered}
+use Rattle.dt_machine.proofs.Gathered.{rows_gathered}
 use Rattle.dt_machine.proofs.Rows.{refused, allowed, contrary, some_and, and_some}
 use Rattle.dt_machine.proofs.TypeWords.{is_supported}
 

@@ -1,10 +1,10 @@
 -- The ranks that the buffers of some names hold.
-use Rattle.std.proofs.Common.{◌≡◌, ◌≢◌, ℕ, suc, ◌+◌, ◌*◌, ◌≤◌, ◌<◌, ℤ, pos, Bool, true, false, ◌||◌, not, List, [], ◌∷◌, ◌++◌, map, take, length, get_or, Option, Some, None, refl, sym, ap, subst, ◌∙◌, arith}
+use Rattle.std.proofs.Common.{◌≡◌, ℕ, suc, ◌+◌, ◌*◌, ◌≤◌, ◌<◌, ℤ, pos, Bool, true, false, not, List, [], ◌∷◌, ◌++◌, take, length, get_or, Option, Some, None, refl, sym, ap, subst, ◌∙◌, arith}
 use Rattle.std.proofs.lemmas.Bool.{or_parts}
 use Rattle.std.proofs.Math.Nat.{mul-le-mul_left}
 use Rattle.std.proofs.lemmas.List.{length-map, length-take-le, map-append, take_more}
 use Rattle.std.specs.List.{list_any}
-use Rattle.std.specs.Option.{is_none, option_and_then, option_map, option_map_or}
+use Rattle.std.specs.Option.{option_and_then, option_map, option_map_or}
 use Rattle.dt_kinds.specs.declared.kind.Rep.TheVariants.{Native}
 use Rattle.dt_map.specs.declared.entry.Entry.{Entry}
 use Rattle.dt_map.specs.Elements.{elements, are_inside}
@@ -17,7 +17,7 @@ use Rattle.dt_reduce.specs.declared.fault.RanksFault.TheVariants as why
 use Rattle.dt_reduce.specs.Ranks.{Ranked, with_rank, IsNotAdded}
 use Rattle.dt_machine.specs.Operation.{ranks_in, Gathers}
 use Rattle.dt_machine.specs.Refusal.{lies_outside}
-use Rattle.dt_machine.specs.Sides.{buffers_of, is_some_lost}
+use Rattle.dt_machine.specs.Sides.{buffers_of}
 use Rattle.dt_machine.specs.State.{State, buffer_of}
 
 -- where a buffer stands, elements lie outside it or inside

@@ -1,9 +1,8 @@
 -- When elements are reduced, and what comes of it.
-use Rattle.std.proofs.Common.{◌≡◌, ℕ, ◌≤◌, ◌<◌, ℤ, pos, nat_abs, true, false, ◌||◌, List, [], ◌∷◌, length, Option, Some, None, IsTrue, inl, inr, refl, ap, subst, ◌∙◌, arith}
-use Rattle.std.proofs.lemmas.Bool.{cases_lt, or_from, or_left, or_right}
+use Rattle.std.proofs.Common.{◌≡◌, ℕ, ◌≤◌, ℤ, pos, true, false, ◌||◌, List, [], ◌∷◌, length, Option, Some, None, IsTrue, inl, inr, refl, ap, ◌∙◌, arith}
+use Rattle.std.proofs.lemmas.Bool.{cases_lt, or_left, or_right}
 use Rattle.std.proofs.lemmas.List.Sums.{sum_by-cons}
 use Rattle.std.specs.Option.{is_none, IsSomeAnd}
-use Rattle.std.specs.Prelude.{int_lt}
 use Rattle.dt_copy.proofs.Opened.{number_of}
 use Rattle.dt_elems.proofs.Clashes.{overlaps_from_size}
 use Rattle.dt_kinds.proofs.Table.{native_size-pos}
@@ -20,7 +19,7 @@ use Rattle.dt_names.specs.declared.stop.Stop.TheVariants.{Refused, NoMemory}
 use Rattle.dt_names.proofs.WordLemmas.{stands_known, left_out_known}
 use Rattle.dt_names.specs.Missing.{IsMissing}
 use Rattle.dt_names.specs.Names.{under}
-use Rattle.dt_reduce.specs.Plan.{Reduction, AreInside, CanReduce, reduction_of}
+use Rattle.dt_reduce.specs.Plan.{Reduction, AreInside, CanReduce}
 use Rattle.dt_reduce.specs.Reduced.{reduced}
 use Rattle.dt_reply.specs.declared.refusal.Refusal.{Refusal}
 use Rattle.dt_reply.specs.declared.refusal.Refusal.TheVariants as refusal

@@ -6,10 +6,8 @@ use Rattle.std.specs.Option.{IsSomeAnd}
 use Rattle.std.specs.Ordering.{nat_cmp}
 use Rattle.std.specs.Prelude.{◌≡◌, ◌≢◌, length, true, false, IsTrue, List, ℕ, ◌<◌, Option, Some, None, IsSome, Result, MatchResult}
 use Rattle.dt_copy.specs.Copied.{copied}
-use Rattle.dt_copy.specs.Plan.{Copy}
-use Rattle.dt_reduce.specs.Plan.{Reduction}
 use Rattle.dt_reduce.specs.Folded.{folded}
-use Rattle.dt_reduce.specs.Ranks.{Ranked, elements_at, CanReduceAll}
+use Rattle.dt_reduce.specs.Ranks.{elements_at, CanReduceAll}
 use Rattle.dt_reduce.specs.Reduced.{reduced}
 use Rattle.dt_reply.specs.declared.refusal.Refusal.TheVariants as refusal
 use Rattle.dt_reply.specs.Reply.{is_accepted}

@@ -1,6 +1,5 @@
-use Rattle.std.proofs.Common.{◌≡◌, ◌*◌, ◌<◌, ℤ, pos, length, sym, ap, ◌∙◌, arith}
+use Rattle.std.proofs.Common.{◌≡◌, ◌*◌, pos, length, sym, ap, ◌∙◌, arith}
 use Rattle.dt_copy.proofs.Opened.{number_of}
-use Rattle.dt_map.specs.Elements.{elements}
 use Rattle.dt_type.specs.Datatype.{typemap_of}
 use Rattle.dt_machine.proofs.reducing.element_count.Goals as goal
 

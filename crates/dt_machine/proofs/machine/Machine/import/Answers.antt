@@ -1,4 +1,4 @@
-use Rattle.std.proofs.Common.{◌≡◌, false, refl, sym, ◌∙◌}
+use Rattle.std.proofs.Common.{◌≡◌, false, sym, ◌∙◌}
 use Rattle.dt_script.specs.declared.command.Command.TheVariants.{Import}
 use Rattle.dt_type.specs.Basic.{is_basic}
 use Rattle.dt_wire.specs.Import.{IsImported}

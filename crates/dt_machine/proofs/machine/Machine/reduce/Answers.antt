@@ -9,7 +9,7 @@ use Rattle.dt_type.specs.Datatype.{typemap_of}
 use Rattle.dt_machine.specs.declared.outcome.Change.TheVariants.{ReduceBytes}
 use Rattle.dt_machine.specs.Sides.{side, reduction_between}
 use Rattle.dt_machine.proofs.Outcomes.{outcome_of}
-use Rattle.dt_machine.proofs.Reductions.{source_lost, target_lost, type_missing, count_withheld, few_apart, reduce_unreduced, reduce_same, reduce_allowed, reduce_can, reduce_performs}
+use Rattle.dt_machine.proofs.Reductions.{count_withheld, few_apart, reduce_unreduced, reduce_same, reduce_allowed, reduce_can, reduce_performs}
 use Rattle.dt_machine.proofs.Rows.{contrary}
 use Rattle.dt_machine.proofs.machine.Machine.reduce.Goals as goal
 

@@ -1,4 +1,4 @@
-use Rattle.std.proofs.Common.{◌≡◌, Bool, true, ◌++◌}
+use Rattle.std.proofs.Common.{◌≡◌, true, ◌++◌}
 use Rattle.dt_reply.specs.Reply.{Gives, Responds, text_of}
 use Rattle.dt_reply.specs.declared.reply.Reply.TheVariants.{Refused}
 use Rattle.dt_machine.specs.Outcome.{changed}
