@@ -12,8 +12,8 @@ SEARCHED = 40  # entries up to which the least cost is searched for
 class Difference:
     """Where a program first differs from the definitions."""
 
-    def __init__(self, number, line, wanted, came):
-        self.number, self.line, self.wanted, self.came = number, line, wanted, came
+    def __init__(self, number, line, wanted, came, is_late=False):
+        self.number, self.line, self.wanted, self.came, self.is_late = number, line, wanted, came, is_late
 
     def __str__(self):
         def cut(text):
@@ -63,7 +63,7 @@ def compare(program, script, without=(), tally=None):
     if status is None or status < 0:
         tally.lines += len(lines.split(script))
         came = f"none after {SECONDS} seconds" if status is None else f"signal {-status}"
-        return Difference(None, b"(the whole script)", "an end of the program", came)
+        return Difference(None, b"(the whole script)", "an end of the program", came, status is None)
     for number, line in enumerate(lines.split(script), 1):
         tally.lines += 1
         came = told.reply = replies[at] if at < len(replies) - 1 else "(nothing)"
@@ -86,7 +86,9 @@ def compare(program, script, without=(), tally=None):
 
 
 def shrunk(program, script, without, difference):
-    """Fewer lines of the script over which there still is a difference, and that difference."""
+    """Fewer lines of the script over which there still is a difference, and that difference. A script that takes too long stays whole."""
+    if difference.is_late:
+        return [script], difference
     kept = script.splitlines(keepends=True) if b"\r" not in script else script.split(b"\n")
     if b"\r" in script:
         kept = [line + b"\n" for line in kept[:-1]] + ([kept[-1]] if kept[-1] else [])

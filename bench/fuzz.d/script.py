@@ -81,10 +81,11 @@ class Script:
         if b"\n" in line:
             return
         line += b"\r\n" if self.mood == "syntax" and self.picks.chance(20) else b"\n"
+        (read,) = lines.split(line)
         try:
-            if self.is_slow(line):
+            if self.is_slow(read):
                 return
-            self.machine.line(lines.split(line)[0])
+            self.machine.line(read)
         except Unlistable:
             return
         self.lines.append(line)
