@@ -56,20 +56,22 @@ MOODS = {
     "faults": {},
 }
 OFTEN = {"plain": 20, "shapes": 12, "pieces": 16, "trees": 12, "wires": 10, "moves": 14, "syntax": 5, "large": 3, "deep": 6, "crowd of sessions": 3, "names": 2, "edges": 10, "faults": 12}
-SELDOM = 1
+SELDOM = 2
+SMALL = 40  # entries of a least tree, for a slow program
 
 
 class Script:
     """A script that is being made."""
 
-    def __init__(self, seed, without=(), entries=1_024):
-        """Without these commands, and with least trees of at most so many entries."""
-        self.entries = entries
+    def __init__(self, seed, without=(), slow=False):
+        """Without these commands; for a slow program with no large buffers, and small least trees alone."""
+        self.entries = SMALL if slow else machine.MOST_NORMALISED
         self.rng = random.Random(seed)
         self.machine = machine.Machine(machine.own_tree, without)
         self.picks = Picks(self.rng, self.machine)
         self.lines = []
-        self.mood = self.rng.choices(list(MOODS), [OFTEN.get(mood, SELDOM) for mood in MOODS])[0]
+        moods = [mood for mood in MOODS if not (slow and mood == "large")]
+        self.mood = self.rng.choices(moods, [OFTEN.get(mood, SELDOM) for mood in moods])[0]
         often = {**PLAIN, **MOODS[self.mood]}
         self.commands = [command for command in often if command not in without]
         self.often = [often[command] for command in self.commands]
