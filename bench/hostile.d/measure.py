@@ -11,9 +11,10 @@ TIME = "/usr/bin/time"  # a small process between, so that the memory is the pro
 class Bomb:
     """An input of a kind, made piece by piece, with the replies that it has."""
 
-    def __init__(self, name, pieces, replies, status=0, words=("run",), needs=()):
-        """Pieces and replies are calls that give bytes piece by piece; replies may be none, where they aren't compared."""
-        self.name, self.pieces, self.replies, self.status = name, pieces, replies, status
+    def __init__(self, name, pieces, replies, status=0, words=("run",), needs=(), fault=None):
+        """Pieces and replies are calls that give bytes piece by piece. Where replies are none, because several are right, `fault` says of
+        the program and the file of what it wrote what is wrong, or none."""
+        self.name, self.pieces, self.replies, self.status, self.fault = name, pieces, replies, status, fault
         self.words = list(words)
         self.needs = [*needs, *self.words[:1]]
 
@@ -78,4 +79,6 @@ def measured(program, bomb):
         fault = None if status == bomb.status else f"status {status} in place of {bomb.status}"
         if bomb.replies is not None:
             fault = fault or first_difference(paths["replies"], bomb.replies())
+        if bomb.fault is not None:
+            fault = fault or bomb.fault(program, paths["replies"])
         return Measured(size, os.path.getsize(paths["replies"]), float(seconds), int(kibibytes) / 1024, fault)

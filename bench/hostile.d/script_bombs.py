@@ -140,6 +140,98 @@ def seeks_in_heavy_session():
         yield ("take s 1", "bytes 1 00")
 
 
+def takes_in_heavy_session():
+    """The same session, byte by byte from its beginning to its end."""
+    parts, length = scattered(32_767)
+    yield "type t = struct " + " ".join(parts)
+    yield "commit t"
+    yield f"buffer b zero {length}"
+    yield ("pack s native 1 t b 0", "ok 32767")
+    for _ in range(32_767):
+        yield ("take s 1", "bytes 1 00")
+
+
+def gives_in_heavy_session():
+    """And an unpack session over the same parts."""
+    parts, length = scattered(32_767)
+    yield "type t = struct " + " ".join(parts)
+    yield "commit t"
+    yield f"buffer b zero {length}"
+    yield ("unpack s native 1 t b 0", "ok 32767")
+    for number in range(1, 32_768):
+        yield ("give s 00", f"given 1 held 0 bytes {number} elements {number} copies {1 if number == 32_767 else 'undefined'}")
+
+
+def opened_again_and_again():
+    """A session over very many parts, opened and closed."""
+    parts, length = scattered(32_767)
+    yield "type t = struct " + " ".join(parts)
+    yield "commit t"
+    yield f"buffer b zero {length}"
+    for _ in range(100):
+        yield ("pack s native 1 t b 0", "ok 32767")
+        yield ("close s", "closed bytes 0 of 32767")
+
+
+def counts_in_heavy_types():
+    """Received bytes that end at the last of very many parts."""
+    parts, _ = scattered(32_767)
+    yield "type t = struct " + " ".join(parts)
+    for _ in range(1_000):
+        yield ("elements native 9223372036854775800 t", "elements 9223372036854775800 copies 281483566907400")
+        yield ("elements native 9223372036854775807 t", "elements 9223372036854775807 copies undefined")
+
+
+def most_items():
+    """As many displacements as an input has room for, all kept."""
+    line = "indexed_block MPI_BYTE 1" + " 7" * 65_534
+    for number in range(127):
+        yield f"type i{number} = {line}"
+
+
+def most_parts():
+    """As many parts as an input has room for, all kept."""
+    yield "type a = dup MPI_BYTE"
+    line = "struct" + " 1@7@a" * 21_844
+    for number in range(127):
+        yield f"type s{number} = {line}"
+
+
+def crowded_parts():
+    """Structs of very many parts, each looked up among all types that may stand, by names that differ in their last letters."""
+    for number in range(1024):
+        yield f"type {'a' * 28}{number:04} = dup MPI_INT"
+    line = "struct " + " ".join(f"1@0@{'a' * 28}{number % 1024:04}" for number in range(21_844))
+    for _ in range(19):
+        yield (f"type more = {line}", "refused 13 too many names")
+
+
+def made_and_freed():
+    """Types that come and go."""
+    for _ in range(300_000):
+        yield "type a = contiguous 2 MPI_INT"
+        yield "free a"
+
+
+def all_at_once():
+    """What stands at once: lists of displacements, the greatest buffers, all sessions over very many parts, and a search for overlap."""
+    parts, length = scattered(32_767)
+    yield "type t = struct " + " ".join(parts)
+    yield "commit t"
+    for number in range(100):
+        yield f"type i{number} = indexed_block MPI_BYTE 1" + " 7" * 65_534
+    for number in range(3):
+        yield f"buffer b{number} count {MOST}"
+    for number in range(256):
+        yield (f"pack s{number} native 1 t b0 0", "ok 32767")
+    yield f"type c = contiguous {MOST - 2} MPI_BYTE"
+    yield f"type o = struct 1@0@c 1@{MOST - 3}@MPI_BYTE"
+    yield "commit o"
+    yield ("close s0", "closed bytes 0 of 32767")
+    yield ("unpack u native 1 o b0 0", "refused 16 overlap")
+    yield ("show b1", "show " + shown(COUNTED))
+
+
 def one_byte_pieces(word, times):
     """A session of the greatest length, in pieces of one byte, as many as an input has room for."""
     if word == "take":
@@ -276,6 +368,15 @@ BOMBS = [
     script("crowded names", crowded_names()),
     script("heavy sessions", heavy_sessions()),
     script("seeks in a heavy session", seeks_in_heavy_session()),
+    script("takes in a heavy session", takes_in_heavy_session()),
+    script("gives in a heavy session", gives_in_heavy_session()),
+    script("opened again and again", opened_again_and_again()),
+    script("counts in heavy types", counts_in_heavy_types()),
+    script("the most displacements", most_items()),
+    script("the most parts", most_parts()),
+    script("all at once", all_at_once()),
+    script("crowded parts", crowded_parts()),
+    script("made and freed", made_and_freed()),
     one_byte_pieces("take", (MOST - 100) // 9),
     one_byte_pieces("give", (MOST - 100) // 10),
     held_pieces((MOST - 100) // 10),

@@ -1,6 +1,9 @@
 """Searches for least trees, and certificates, of the most entries there may be."""
 import random
+import subprocess
 
+import machine
+import words
 from measure import Bomb
 from script_bombs import script
 
@@ -34,9 +37,36 @@ def rising():
 
 
 def search(name, places, weights="1 3 2 1 2 2"):
-    """One search. Which of several least trees is told isn't fixed, so that replies aren't compared."""
-    text = f"{type_of(places)}\nweights {weights}\nnormalise a\n".encode()
-    return Bomb(f"least tree: {name}", lambda: [text], None)
+    """One search. Which of several least trees is told isn't fixed; the one that is has to place the entries, and to cost what is told."""
+    lines = [type_of(places), f"weights {weights}", "normalise a"]
+    text = "".join(f"{line}\n" for line in lines).encode()
+
+    def fault(_, path):
+        with open(path) as file:
+            *_, reply = file.read().splitlines()
+        told = machine.Told(0)
+        told.reply = reply
+        model = machine.Machine(told)
+        try:
+            wanted = [model.line(line.encode()) for line in lines]
+        except machine.Wrong as wrong:
+            return str(wrong)
+        return None if wanted[-1] == reply else f"{reply[:100]} in place of {wanted[-1][:100]}"
+
+    return Bomb(f"least tree: {name}", lambda: [text], None, fault=fault)
+
+
+def checks(program, path):
+    """Whether what was written is a certificate that holds, with the cost that the rising steps have."""
+    with open(path, "rb") as file:
+        came = subprocess.run([program, "check"], stdin=file, capture_output=True).stdout
+    return None if came == b"least %d\n" % rising_value(ENTRIES) else f"{came[:100]!r} of what was written"
+
+
+def totals(program, _):
+    """Whether the totals are those of the generated script, run."""
+    difference = words.differs_in_totals(program, (1 << 32) - 1)
+    return str(difference)[:200] if difference else None
 
 
 RISING_TREE = "index 1024 1 " + " ".join(map(str, rising())) + " leaf MPI_BYTE"
@@ -91,14 +121,14 @@ BOMBS = [
     checked("one line more", lambda: [*certificate(3), b"\n"], b"not shown syntax %d\n" % (LINES[3] + 1), 1),
     Bomb("migrated from version 2", lambda: certificate(2), lambda: certificate(3), 0, ["migrate"]),
     Bomb("migrated from version 3", lambda: certificate(3), lambda: certificate(3), 0, ["migrate"]),
-    Bomb("migrated from version 1", lambda: [b"dtcert 1\n", b"".join(certificate(2))[9:]], None, 0, ["migrate"]),
-    Bomb("certified", lambda: [f"{type_of(rising())}\n".encode()], None, 0, ["certify", "a"]),
+    Bomb("migrated from version 1", lambda: [b"dtcert 1\n", b"".join(certificate(2))[9:]], None, 0, ["migrate"], fault=checks),
+    Bomb("certified", lambda: [f"{type_of(rising())}\n".encode()], None, 0, ["certify", "a"], fault=checks),
     checked("a tree of 1,024^63 elements", lambda: [HEAD + NESTED], b"not shown map 1024\n", 1),
     checked("a tree of very many parts", lambda: [HEAD + MANY_PARTS], b"not shown map 1024\n", 1),
     checked("no certificate: one line", lambda: [b"x" * (1 << 20)] * 16, b"not shown syntax 1\n", 1),
     checked("no certificate: empty lines", lambda: [b"\n" * (1 << 20)] * 16, b"not shown syntax 1\n", 1),
     checked("a tree in one line", lambda: [HEAD + b"tree "] + [b"struct 2 1 0 " * 80_000] * 15, b"not shown syntax 1029\n", 1),
-    Bomb("gen 4294967295", lambda: [], None, 0, ["gen", "4294967295"]),
+    Bomb("gen 4294967295", lambda: [], None, 0, ["gen", "4294967295"], fault=totals),
     script("rebuilt again and again", [(type_of(rising()), "ok")] + [
         (f"rebuild r{i} = a", f"tree cost 1027 base 0 {RISING_TREE}") for i in range(3)
     ]),
