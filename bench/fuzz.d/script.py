@@ -56,7 +56,7 @@ MOODS = {
     "faults": {},
 }
 OFTEN = {"plain": 20, "shapes": 12, "pieces": 16, "trees": 12, "wires": 10, "moves": 14, "syntax": 5, "large": 3, "deep": 6, "crowd of sessions": 3, "names": 2, "edges": 10, "faults": 12}
-SELDOM = 2
+SELDOM = 3
 SMALL = 40  # entries of a least tree, for a slow program
 
 
@@ -130,7 +130,7 @@ class Script:
         if self.mood == "deep":
             self.deep()
         if self.mood == "edges":
-            picks.edge = self.one(10, 25, 50)
+            picks.edge = self.one(4, 10, 25, 50)
         if self.mood == "faults" or self.mood.startswith("crowd") and picks.chance(50):
             picks.fault = self.one(5, 15, 30)
         if self.mood == "trees":
@@ -151,6 +151,10 @@ class Script:
             name = picks.new_name("t", ())
             self.say(f"type {name} = struct {self.one('0', '1')}@0@{word} {self.one('0', '1')}@{picks.small()}@{word}")
             word = name if name in self.machine.types else word
+        for _ in range(self.rng.randint(0, 5)):
+            name = picks.new_name("t", ())
+            self.say(f"type {name} = {self.one('dup', 'resized 0 8')} {word}")
+            word = name if name in self.machine.types else word
 
     def one(self, *choices):
         return self.rng.choice(choices)
@@ -164,9 +168,31 @@ class Script:
         picks = self.picks
         if self.mood == "names" and picks.machine.types and picks.chance(50):
             return f"type {picks.standing(picks.machine.types)} = {picks.constructor()}"
+        if self.mood == "edges" and picks.chance(15):
+            return f"type {picks.new_name('t', picks.machine.types)} = {self.brink()}"
         if self.mood == "trees" and picks.chance(30):
             return f"type {picks.new_name('t', picks.machine.types)} = {self.repeated()}"
         return f"type {picks.new_name('t', picks.machine.types)} = {picks.constructor()}"
+
+    def brink(self):
+        """A type at a limit, or one step off it: of its bounds, of what can be rebuilt, or of the entries that are listed."""
+        by = self.one(-1, 0, 0, 1)
+        far, half = (1 << 60) + by, (1 << 59) + by
+        marked = [name for name, (old, _) in self.machine.types.items() if old.marks and old.size == 1] or ["MPI_BYTE"]
+        return self.one(
+            f"hvector 2 1 {half - 1} MPI_BYTE",
+            f"struct 1@{-(half >> 1)}@MPI_BYTE 1@{half - (half >> 1) - 1}@MPI_BYTE",
+            f"hindexed_block MPI_INT 1 {far - 4}",
+            f"hindexed_block MPI_BYTE 1 {-far}",
+            f"resized {-far} {2 * far + self.one(-1, 0, 1)} MPI_BYTE",
+            f"struct 1@{(1 << 60) - 17}@MPI_LONG 1@{(1 << 60) - 1}@{self.one(*marked)}",
+            f"struct 1@{(1 << 60) - 16}@MPI_LONG 1@{(1 << 60) - 1}@{self.one(*marked)}",
+            f"contiguous {self.one(1 << 28, (1 << 28) + by)} {self.picks.type_word(5)}",
+            f"contiguous {1024 + by} {self.one('MPI_BYTE', 'MPI_LONG')}",
+            f"contiguous {4096 + by} {self.one('MPI_BYTE', 'MPI_LONG')}",
+            "resized 0 1 MPI_BYTE",
+            f"contiguous {1 << 30} {self.picks.type_word(5)}",
+        )
 
     def repeated(self):
         """A type of which parts are repeated, with a slip now and then."""
@@ -249,6 +275,9 @@ class Script:
         picks = self.picks
         name = picks.new_name("b", picks.machine.buffers)
         if self.mood == "large":
+            left = machine.MOST_BYTES_TOGETHER - sum(map(len, self.machine.buffers.values()))
+            if left <= machine.MOST_BYTES and picks.chance(50):
+                return f"buffer {name} zero {left + self.one(-1, 0, 0, 1)}"
             return f"buffer {name} {self.one('zero', 'count')} {self.one(1 << 24, (1 << 24) - 1, (1 << 24) + 1, 1 << 23, 65_536, 3)}"
         if picks.chance(30):
             return f"buffer {name} hex {picks.data(self.rng.randint(0, 40))}"
