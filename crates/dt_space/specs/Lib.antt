@@ -1,0 +1,4 @@
+pub mod Fault
+pub mod Live
+pub mod New
+pub mod Space

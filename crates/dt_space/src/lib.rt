@@ -1,0 +1,15 @@
+//! Datatypes and sessions under numbers, with one call for each call of MPI: what a library for another language stands on.
+#![tactic(auto)]
+
+mod even;
+pub mod fault;
+mod live;
+pub mod number;
+pub mod session;
+mod sizes;
+pub mod space;
+
+pub use fault::SpaceFault;
+pub use number::{BASIC, Kept, Operation, TypeNumber};
+pub use session::Session;
+pub use space::Space;
