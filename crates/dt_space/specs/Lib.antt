@@ -1,4 +1,5 @@
 pub mod Fault
 pub mod Live
 pub mod New
+pub mod Packing
 pub mod Space

@@ -5,6 +5,7 @@ mod even;
 pub mod fault;
 mod live;
 pub mod number;
+mod packing;
 pub mod session;
 mod sizes;
 pub mod space;
