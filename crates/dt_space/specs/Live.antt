@@ -1,5 +1,5 @@
 -- Numbers that come, are committed, and go.
-use Rattle.std.specs.Prelude.{◌≡◌, ◌≢◌, ◌+◌, true, false, Option, Some, None}
+use Rattle.std.specs.Prelude.{◌≡◌, ◌≢◌, ◌+◌, true, false, Option, Some, None, Result, MatchResult}
 use Rattle.std.specs.Option.{option_map, IsSomeAnd}
 use Rattle.dt_type.specs.declared.datatype.Seen.{Seen}
 use Rattle.dt_type.specs.Basic.{is_basic}
@@ -56,3 +56,10 @@ abbrev pub IsFreeRefusal : Space → TypeNumber → SpaceFault → Type 0
 IsFreeRefusal s n NoSuchType = kept_at s n ≡ None
 IsFreeRefusal s n Basic = IsSomeAnd (type_at s n) (λ t. is_basic t ≡ true)
 IsFreeRefusal s n fault = ⊥
+
+-- the answers; a refusal changes nothing
+abbrev pub IsCommitAnswer : Space → Space → TypeNumber → Result (Unit {0}) SpaceFault → Type 0
+IsCommitAnswer old new n answer = MatchResult answer (λ done. Commits old new n) (λ fault. (new ≡ old) × IsCommitRefusal old n fault)
+
+abbrev pub IsFreeAnswer : Space → Space → TypeNumber → Result (Unit {0}) SpaceFault → Type 0
+IsFreeAnswer old new n answer = MatchResult answer (λ done. Frees old new n) (λ fault. (new ≡ old) × IsFreeRefusal old n fault)

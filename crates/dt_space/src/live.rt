@@ -2,7 +2,7 @@
 ghost use Rattle.std.specs.Prelude.{◌≡◌, MatchResult, Some, None, slice_get};
 ghost use Rattle.dt_kinds.specs.Name.{kinds};
 ghost use Rattle.dt_space.specs.declared.fault.SpaceFault.TheVariants as SpaceFault;
-ghost use Rattle.dt_space.specs.Live.{Adds, Commits, Frees, IsFull, IsFreeRefusal, IsCommitRefusal};
+ghost use Rattle.dt_space.specs.Live.{Adds, IsFull, IsCommitAnswer, IsFreeAnswer};
 
 use crate::fault::SpaceFault;
 use crate::number::{BASIC, TypeNumber};
@@ -36,7 +36,7 @@ impl Space {
     /// Commits a datatype (MPI 4.1, section 5.1.9, `MPI_Type_commit`); a second time changes nothing more. `NoSuchType` exactly where
     /// the number stands for nothing; then nothing is changed.
     pub fn commit(&mut self, number: TypeNumber) -> Result<(), SpaceFault>
-        ensures { MatchResult result (λ done. Commits self.old self.new number) (λ fault. (self.new ≡ self.old) × IsCommitRefusal self.old number fault) }
+        ensures { IsCommitAnswer self.old self.new number result }
     {
         if number.serial == BASIC {
             kind_at(number.slot)?;
@@ -50,7 +50,7 @@ impl Space {
     /// the number stands for nothing, `Basic` exactly where its datatype is basic; then nothing is changed. The number never comes
     /// again.
     pub fn free(&mut self, number: TypeNumber) -> Result<(), SpaceFault>
-        ensures { MatchResult result (λ done. Frees self.old self.new number) (λ fault. (self.new ≡ self.old) × IsFreeRefusal self.old number fault) }
+        ensures { IsFreeAnswer self.old self.new number result }
     {
         if number.serial == BASIC {
             kind_at(number.slot)?;
