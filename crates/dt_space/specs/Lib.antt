@@ -2,4 +2,5 @@ pub mod Fault
 pub mod Live
 pub mod New
 pub mod Packing
+pub mod Sizes
 pub mod Space

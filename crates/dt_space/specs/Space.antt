@@ -1,16 +1,13 @@
 -- The datatypes and the sessions of a space, and what a number stands for.
 use Rattle.std.specs.Prelude.{◌≡◌, ℕ, ◌==◌, if◌then◌else◌, true, Option, None, List, [], slice_get}
-use Rattle.std.specs.Option.{option_map, IsSomeAnd}
+use Rattle.std.specs.Option.{option_map}
 use Rattle.dt_form.specs.declared.form.FormOf.TheVariants.{Named}
 use Rattle.dt_kinds.specs.declared.kind.Kind.{Kind}
 use Rattle.dt_kinds.specs.Name.{kinds}
-use Rattle.dt_map.specs.Bounds.{bounds_of}
-use Rattle.dt_map.specs.declared.bounds.Bounds.{Bounds}
 use Rattle.dt_registry.specs.declared.registry.Handle.{Handle}
 use Rattle.dt_registry.specs.declared.registry.Live.{Live}
 use Rattle.dt_registry.specs.Registry.{Registry, first_registry, live_at}
 use Rattle.dt_type.specs.declared.datatype.Seen.{Seen}
-use Rattle.dt_type.specs.Datatype.{typemap_of}
 use Rattle.dt_type.specs.Form.{result_of}
 use Rattle.dt_space.specs.declared.fault.SpaceFault.{SpaceFault}
 use Rattle.dt_space.specs.declared.fault.SpaceFault.TheVariants.{NoSuchType, NoMemory}
@@ -51,7 +48,3 @@ abbrev pub IsMissing : Space → TypeNumber → SpaceFault → Type 0
 IsMissing s n NoSuchType = kept_at s n ≡ None
 IsMissing s n NoMemory = Unit {0}
 IsMissing s n fault = ⊥
-
--- the bounds of the datatype of a number
-abbrev pub IsBoundsOf : Space → TypeNumber → Bounds → Type 0
-IsBoundsOf s n bounds = IsSomeAnd (type_at s n) (λ t. bounds ≡ bounds_of (typemap_of t))

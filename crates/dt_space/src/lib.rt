@@ -11,6 +11,6 @@ mod sizes;
 pub mod space;
 
 pub use fault::SpaceFault;
-pub use number::{BASIC, Kept, Operation, TypeNumber};
+pub use number::{BASIC, Extent, Kept, Operation, TypeNumber};
 pub use session::Session;
 pub use space::Space;

@@ -30,3 +30,11 @@ pub struct Operation {
     pub origin: i64,
     pub rep: Rep,
 }
+
+/// A lower bound and an extent, in bytes.
+#[repr(C)]
+#[derive(Clone, Copy, Debug, PartialEq, Eq, Drop)]
+pub struct Extent {
+    pub lb: i64,
+    pub extent: i64,
+}
