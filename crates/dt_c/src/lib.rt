@@ -1,0 +1,10 @@
+//! The library for C: each export calls one public call of `dt_space` on the space of a `Library`, and answers a number.
+#![tactic(auto)]
+
+mod answer;
+pub mod control;
+pub mod held;
+pub mod library;
+pub mod parts;
+pub mod sizes;
+pub mod types;
