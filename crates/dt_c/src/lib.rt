@@ -5,6 +5,7 @@ mod answer;
 pub mod control;
 pub mod held;
 pub mod library;
+mod packing;
 pub mod parts;
 pub mod sizes;
 pub mod types;

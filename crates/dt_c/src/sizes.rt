@@ -19,7 +19,7 @@ pub extern "C" fn dt_c_type_size(
     datatype: TypeNumber,
     size: &mut u64,
 ) -> i32
-    ensures { Calls lib.old.held.space lib.new.held.space result (λ s t r. (t ≡ s) × MatchResult r (IsSize s datatype) (IsMissing s datatype) × (size.new ≡ result_unwrap_or r size.old)) }
+    ensures { Calls lib.old.held.space lib.new.held.space result (size.new ≡ size.old) (λ s t r. (t ≡ s) × MatchResult r (IsSize s datatype) (IsMissing s datatype) × (size.new ≡ result_unwrap_or r size.old)) }
 {
     let Some(space) = lib.take(alloc) else {
         return is_closed();
@@ -38,7 +38,7 @@ pub extern "C" fn dt_c_type_get_extent(
     datatype: TypeNumber,
     bounds: &mut Extent,
 ) -> i32
-    ensures { Calls lib.old.held.space lib.new.held.space result (λ s t r. (t ≡ s) × MatchResult r (IsExtent s datatype) (IsMissing s datatype) × (bounds.new ≡ result_unwrap_or r bounds.old)) }
+    ensures { Calls lib.old.held.space lib.new.held.space result (bounds.new ≡ bounds.old) (λ s t r. (t ≡ s) × MatchResult r (IsExtent s datatype) (IsMissing s datatype) × (bounds.new ≡ result_unwrap_or r bounds.old)) }
 {
     let Some(space) = lib.take(alloc) else {
         return is_closed();
@@ -57,7 +57,7 @@ pub extern "C" fn dt_c_type_get_true_extent(
     datatype: TypeNumber,
     bounds: &mut Extent,
 ) -> i32
-    ensures { Calls lib.old.held.space lib.new.held.space result (λ s t r. (t ≡ s) × MatchResult r (IsTrueExtent s datatype) (IsMissing s datatype) × (bounds.new ≡ result_unwrap_or r bounds.old)) }
+    ensures { Calls lib.old.held.space lib.new.held.space result (bounds.new ≡ bounds.old) (λ s t r. (t ≡ s) × MatchResult r (IsTrueExtent s datatype) (IsMissing s datatype) × (bounds.new ≡ result_unwrap_or r bounds.old)) }
 {
     let Some(space) = lib.take(alloc) else {
         return is_closed();

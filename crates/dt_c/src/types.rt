@@ -1,5 +1,5 @@
 //! Calls that make, commit and free datatypes (MPI 4.1, section 5.1).
-ghost use Rattle.std.specs.Prelude.{◌≡◌};
+ghost use Rattle.std.specs.Prelude.{◌≡◌, ⊤};
 ghost use Rattle.std.specs.Result.{result_unwrap_or};
 ghost use Rattle.dt_form.specs.declared.form.FormOf.TheVariants as FormOf;
 ghost use Rattle.dt_space.specs.Live.{IsCommitAnswer, IsFreeAnswer};
@@ -21,7 +21,7 @@ pub extern "C" fn dt_c_type_contiguous(
     oldtype: TypeNumber,
     newtype: &mut TypeNumber,
 ) -> i32
-    ensures { Calls lib.old.held.space lib.new.held.space result (λ s t r. IsNewOf s t oldtype (λ u. FormOf.Contiguous count u) r × (newtype.new ≡ result_unwrap_or r newtype.old)) }
+    ensures { Calls lib.old.held.space lib.new.held.space result (newtype.new ≡ newtype.old) (λ s t r. IsNewOf s t oldtype (λ u. FormOf.Contiguous count u) r × (newtype.new ≡ result_unwrap_or r newtype.old)) }
 {
     let Some(mut space) = lib.take(alloc) else {
         return is_closed();
@@ -43,7 +43,7 @@ pub extern "C" fn dt_c_type_vector(
     oldtype: TypeNumber,
     newtype: &mut TypeNumber,
 ) -> i32
-    ensures { Calls lib.old.held.space lib.new.held.space result (λ s t r. IsNewOf s t oldtype (λ u. FormOf.Vector count blocklength stride u) r × (newtype.new ≡ result_unwrap_or r newtype.old)) }
+    ensures { Calls lib.old.held.space lib.new.held.space result (newtype.new ≡ newtype.old) (λ s t r. IsNewOf s t oldtype (λ u. FormOf.Vector count blocklength stride u) r × (newtype.new ≡ result_unwrap_or r newtype.old)) }
 {
     let Some(mut space) = lib.take(alloc) else {
         return is_closed();
@@ -65,7 +65,7 @@ pub extern "C" fn dt_c_type_create_hvector(
     oldtype: TypeNumber,
     newtype: &mut TypeNumber,
 ) -> i32
-    ensures { Calls lib.old.held.space lib.new.held.space result (λ s t r. IsNewOf s t oldtype (λ u. FormOf.Hvector count blocklength stride u) r × (newtype.new ≡ result_unwrap_or r newtype.old)) }
+    ensures { Calls lib.old.held.space lib.new.held.space result (newtype.new ≡ newtype.old) (λ s t r. IsNewOf s t oldtype (λ u. FormOf.Hvector count blocklength stride u) r × (newtype.new ≡ result_unwrap_or r newtype.old)) }
 {
     let Some(mut space) = lib.take(alloc) else {
         return is_closed();
@@ -86,7 +86,7 @@ pub extern "C" fn dt_c_type_create_resized(
     extent: i64,
     newtype: &mut TypeNumber,
 ) -> i32
-    ensures { Calls lib.old.held.space lib.new.held.space result (λ s t r. IsNewOf s t oldtype (λ u. FormOf.Resized lb extent u) r × (newtype.new ≡ result_unwrap_or r newtype.old)) }
+    ensures { Calls lib.old.held.space lib.new.held.space result (newtype.new ≡ newtype.old) (λ s t r. IsNewOf s t oldtype (λ u. FormOf.Resized lb extent u) r × (newtype.new ≡ result_unwrap_or r newtype.old)) }
 {
     let Some(mut space) = lib.take(alloc) else {
         return is_closed();
@@ -105,7 +105,7 @@ pub extern "C" fn dt_c_type_dup(
     oldtype: TypeNumber,
     newtype: &mut TypeNumber,
 ) -> i32
-    ensures { Calls lib.old.held.space lib.new.held.space result (λ s t r. IsNewOf s t oldtype (λ u. FormOf.Dup u) r × (newtype.new ≡ result_unwrap_or r newtype.old)) }
+    ensures { Calls lib.old.held.space lib.new.held.space result (newtype.new ≡ newtype.old) (λ s t r. IsNewOf s t oldtype (λ u. FormOf.Dup u) r × (newtype.new ≡ result_unwrap_or r newtype.old)) }
 {
     let Some(mut space) = lib.take(alloc) else {
         return is_closed();
@@ -119,7 +119,7 @@ pub extern "C" fn dt_c_type_dup(
 #[unsafe(no_mangle)]
 #[tactic(auto, using(crate::proofs::Calling::calls_none))]
 pub extern "C" fn dt_c_type_commit(alloc: Global, lib: &mut Library, datatype: TypeNumber) -> i32
-    ensures { Calls lib.old.held.space lib.new.held.space result (λ s t r. IsCommitAnswer s t datatype r) }
+    ensures { Calls lib.old.held.space lib.new.held.space result ⊤ (λ s t r. IsCommitAnswer s t datatype r) }
 {
     let Some(mut space) = lib.take(alloc) else {
         return is_closed();
@@ -133,7 +133,7 @@ pub extern "C" fn dt_c_type_commit(alloc: Global, lib: &mut Library, datatype: T
 #[unsafe(no_mangle)]
 #[tactic(auto, using(crate::proofs::Calling::calls_none))]
 pub extern "C" fn dt_c_type_free(alloc: Global, lib: &mut Library, datatype: TypeNumber) -> i32
-    ensures { Calls lib.old.held.space lib.new.held.space result (λ s t r. IsFreeAnswer s t datatype r) }
+    ensures { Calls lib.old.held.space lib.new.held.space result ⊤ (λ s t r. IsFreeAnswer s t datatype r) }
 {
     let Some(mut space) = lib.take(alloc) else {
         return is_closed();

@@ -1,5 +1,5 @@
 -- Operations on numbered datatypes: what is packed and unpacked, and why not.
-use Rattle.std.specs.Prelude.{◌≡◌, ℕ, ◌+◌, ◌<◌, ◌⊎◌, ◌<ℤ◌, ◌≤ℤ◌, pos, nat_abs, true, false, IsTrue, None, List, ◌++◌, take, drop, length}
+use Rattle.std.specs.Prelude.{◌≡◌, ℕ, ◌+◌, ◌<◌, ◌⊎◌, ◌<ℤ◌, ◌≤ℤ◌, pos, nat_abs, true, false, IsTrue, None, List, ◌++◌, take, drop, length, Result, MatchResult, IfErr}
 use Rattle.std.specs.Option.{IsSomeAnd}
 use Rattle.dt_map.specs.declared.entry.Entry.{Entry}
 use Rattle.dt_map.specs.Elements.{elements, are_inside, Overlaps}
@@ -88,3 +88,14 @@ pub record IsUnpacked (op : Operation) (t : Seen) (bytes old new : List ℕ) (po
   pub end_is : end ≡ position + total_of op t
   pub fits : end < length bytes + 1
   pub set : new ≡ unpack.buffer_after (unpacking op (length old) t) old (take (total_of op t) (drop position bytes))
+
+-- the answers; a refusal leaves the bytes as they were
+abbrev pub IsPackAnswer : Space → Operation → List ℕ → List ℕ → List ℕ → ℕ → Result ℕ SpaceFault → Type 0
+IsPackAnswer s op buffer old new position answer =
+    MatchResult answer (λ end. IsReady s op (λ t. IsPacked op t buffer old new position end)) (IsPackCause s op (length buffer) (length old) position)
+    × IfErr answer (λ fault. new ≡ old)
+
+abbrev pub IsUnpackAnswer : Space → Operation → List ℕ → List ℕ → List ℕ → ℕ → Result ℕ SpaceFault → Type 0
+IsUnpackAnswer s op bytes old new position answer =
+    MatchResult answer (λ end. IsReady s op (λ t. IsUnpacked op t bytes old new position end)) (IsUnpackCause s op (length old) (length bytes) position)
+    × IfErr answer (λ fault. new ≡ old)

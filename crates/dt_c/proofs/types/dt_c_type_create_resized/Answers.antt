@@ -6,5 +6,5 @@ use Rattle.dt_c.proofs.types.dt_c_type_create_resized.Goals as goal
 
 pub returns : goal.returns
 returns c =
-    calls_some _ _ _ _ c.deref_mut.result.now c.resized-answer.new.self c.resized-answer.result (search rules) (search rules) (search rules)
+    calls_some _ _ _ _ _ c.deref_mut.result.now c.resized-answer.new.self c.resized-answer.result (search rules) (search rules) (search rules)
     (rw (sym (to_z-of_z w64 c.args.lb c.ranges.lb), sym (to_z-of_z w64 c.args.extent c.ranges.extent)) c.resized-answer.ensures, c.put.ensures.value)
