@@ -5,6 +5,7 @@ ghost use Rattle.dt_space.specs.Fault.{fault_of, add_fault, handle_fault};
 
 use dt_registry::{AddFault, HandleFault};
 use dt_type::CtorFault;
+use std::alloc::AllocFailed;
 use thiserror::Error;
 
 /// Why a call is refused. A call says of each refusal that it answers when it comes.
@@ -44,6 +45,14 @@ impl From<dt_kinds::NoMemory> for SpaceFault {
     ghost from_gives = { λ _ fault. fault ≡ NoMemory };
 
     fn from(_error: dt_kinds::NoMemory) -> SpaceFault {
+        SpaceFault::NoMemory
+    }
+}
+
+impl<T: Drop> From<AllocFailed<T>> for SpaceFault {
+    ghost from_gives = { λ _ fault. fault ≡ NoMemory };
+
+    fn from(_error: AllocFailed<T>) -> SpaceFault {
         SpaceFault::NoMemory
     }
 }

@@ -7,10 +7,11 @@ mod live;
 pub mod number;
 mod packing;
 pub mod session;
+mod sessions;
 mod sizes;
 pub mod space;
 
 pub use fault::SpaceFault;
-pub use number::{BASIC, Extent, Kept, Operation, TypeNumber};
+pub use number::{BASIC, Extent, Kept, Operation, Progress, Receipt, TypeNumber};
 pub use session::Session;
 pub use space::Space;

@@ -38,3 +38,19 @@ pub struct Extent {
     pub lb: i64,
     pub extent: i64,
 }
+
+/// How many packed bytes a session has in all, and how many of them were passed.
+#[repr(C)]
+#[derive(Clone, Copy, Debug, PartialEq, Eq, Drop)]
+pub struct Progress {
+    pub total: u64,
+    pub position: u64,
+}
+
+/// What a piece came to: so many elements were completed, and so many bytes of a further one are held.
+#[repr(C)]
+#[derive(Clone, Copy, Debug, PartialEq, Eq, Drop)]
+pub struct Receipt {
+    pub completed: u64,
+    pub held: u64,
+}
