@@ -7,5 +7,6 @@ pub mod held;
 pub mod library;
 mod packing;
 pub mod parts;
+pub mod sessions;
 pub mod sizes;
 pub mod types;

@@ -10,7 +10,12 @@ use dt_space::{Operation, TypeNumber};
 use std::alloc::Global;
 
 /// An operation from its parts.
-fn operation(datatype: TypeNumber, count: i32, origin: i64, external32: bool) -> Operation
+pub(crate) fn operation(
+    datatype: TypeNumber,
+    count: i32,
+    origin: i64,
+    external32: bool,
+) -> Operation
     ensures { result ≡ operation datatype count origin external32 }
 {
     Operation {
