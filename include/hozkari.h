@@ -133,6 +133,28 @@ int32_t dt_c_pack(dt_lib *lib, const uint8_t *inbuf, size_t insize, int64_t orig
 int32_t dt_c_unpack(dt_lib *lib, const uint8_t *inbuf, size_t insize, size_t *position, uint8_t *outbuf, size_t outsize, int64_t origin,
                     int32_t outcount, dt_type datatype, bool external32);
 
+/* How many packed bytes a session has in all, and how many of them were passed. */
+typedef struct {
+    uint64_t total;
+    uint64_t position;
+} dt_c_progress;
+
+/* What a piece came to: so many elements were completed, and so many bytes of a further one are held. */
+typedef struct {
+    uint64_t completed;
+    uint64_t held;
+} dt_receipt;
+
+int32_t dt_c_pack_open(dt_lib *lib, size_t bufsize, int64_t origin, int32_t count, dt_type datatype, bool external32, uint64_t *session);
+int32_t dt_c_unpack_open(dt_lib *lib, size_t bufsize, int64_t origin, int32_t count, dt_type datatype, bool external32,
+                         uint64_t *session);
+int32_t dt_c_session_take(dt_lib *lib, uint64_t session, const uint8_t *buffer, size_t bufsize, uint8_t *outbuf, size_t outsize,
+                          size_t *taken);
+int32_t dt_c_session_give(dt_lib *lib, uint64_t session, uint8_t *buffer, size_t bufsize, const uint8_t *piece, size_t piecesize,
+                          dt_receipt *receipt);
+int32_t dt_c_session_progress(dt_lib *lib, uint64_t session, dt_c_progress *progress);
+int32_t dt_c_session_close(dt_lib *lib, uint64_t session);
+
 /* No byte of a buffer, which may be told by a null pointer and 0. */
 static inline const uint8_t *dt_c_in(const void *buf) {
     return buf ? (const uint8_t *)buf : (const uint8_t *)"";
@@ -251,6 +273,62 @@ static inline int dt_unpack(dt_lib *lib, const void *inbuf, size_t insize, size_
     if (!lib || (!inbuf && insize) || (!outbuf && outsize) || !position || (rep != DT_NATIVE && rep != DT_EXTERNAL32)) return DT_ERR_ARG;
     return dt_c_unpack(lib, dt_c_in(inbuf), insize, position, dt_c_out(outbuf, &none), outsize, origin, outcount, datatype,
                        rep == DT_EXTERNAL32);
+}
+
+/* ---- sessions: an operation whose packed bytes come in pieces of any length. MPI has no counterpart: MPI_Pack and MPI_Unpack go on only
+ * at a whole datatype. A session keeps neither the buffer nor the datatype: each call is given the buffer, as it is then. */
+
+/* The number of a session. */
+typedef uint64_t dt_session;
+
+/* Opens a session that packs count copies, the first of which begins at the place origin of a buffer of bufsize bytes. Refused as dt_pack is,
+ * but for room; DT_ERR_SPENT where all numbers were used. */
+static inline int dt_pack_open(dt_lib *lib, size_t bufsize, int64_t origin, int count, dt_type datatype, dt_rep rep, dt_session *session) {
+    if (!lib || !session || (rep != DT_NATIVE && rep != DT_EXTERNAL32)) return DT_ERR_ARG;
+    return dt_c_pack_open(lib, bufsize, origin, count, datatype, rep == DT_EXTERNAL32, session);
+}
+
+/* Opens a session that unpacks. Refused as dt_unpack is, but for room; DT_ERR_SPENT where all numbers were used. */
+static inline int dt_unpack_open(dt_lib *lib, size_t bufsize, int64_t origin, int count, dt_type datatype, dt_rep rep,
+                                 dt_session *session) {
+    if (!lib || !session || (rep != DT_NATIVE && rep != DT_EXTERNAL32)) return DT_ERR_ARG;
+    return dt_c_unpack_open(lib, bufsize, origin, count, datatype, rep == DT_EXTERNAL32, session);
+}
+
+/* Puts the next packed bytes of the buffer to the front of outbuf, as many as have room or are still to come, and puts their number into
+ * *taken: 0 at the end. DT_ERR_SESSION where the number stands for no session that packs, DT_ERR_ARG where bufsize isn't that of opening. */
+static inline int dt_session_take(dt_lib *lib, dt_session session, const void *buffer, size_t bufsize, void *outbuf, size_t outsize,
+                                  size_t *taken) {
+    uint8_t none;
+    if (!lib || (!buffer && bufsize) || (!outbuf && outsize) || !taken) return DT_ERR_ARG;
+    return dt_c_session_take(lib, session, dt_c_in(buffer), bufsize, dt_c_out(outbuf, &none), outsize, taken);
+}
+
+/* Gives the next packed bytes: the elements of the buffer that they complete are set, no other byte changes, and the bytes of an element that
+ * isn't complete are held. DT_ERR_SESSION where the number stands for no session that unpacks, DT_ERR_ARG where bufsize isn't that of
+ * opening, DT_ERR_ROOM where more is given than is still to come. */
+static inline int dt_session_give(dt_lib *lib, dt_session session, void *buffer, size_t bufsize, const void *piece, size_t piecesize,
+                                  dt_receipt *receipt) {
+    uint8_t none;
+    if (!lib || (!buffer && bufsize) || (!piece && piecesize) || !receipt) return DT_ERR_ARG;
+    return dt_c_session_give(lib, session, dt_c_out(buffer, &none), bufsize, dt_c_in(piece), piecesize, receipt);
+}
+
+/* How many packed bytes a session has in all, and how many of them were passed. DT_ERR_SESSION where the number stands for none. */
+static inline int dt_session_progress(dt_lib *lib, dt_session session, uint64_t *total, uint64_t *position) {
+    dt_c_progress progress = {0, 0};
+    if (!lib || !total || !position) return DT_ERR_ARG;
+    int answer = dt_c_session_progress(lib, session, &progress);
+    if (answer == DT_SUCCESS) {
+        *total = progress.total;
+        *position = progress.position;
+    }
+    return answer;
+}
+
+/* Closes a session, at its end or before. DT_ERR_SESSION where the number stands for none. */
+static inline int dt_session_close(dt_lib *lib, dt_session session) {
+    return lib ? dt_c_session_close(lib, session) : DT_ERR_ARG;
 }
 
 #ifdef __cplusplus
