@@ -5,3 +5,4 @@ pub mod Packing
 pub mod Sessions
 pub mod Sizes
 pub mod Space
+pub mod Structures

@@ -3,6 +3,7 @@
 
 mod even;
 pub mod fault;
+mod lists;
 mod live;
 pub mod number;
 mod packing;
@@ -10,6 +11,7 @@ pub mod session;
 mod sessions;
 mod sizes;
 pub mod space;
+mod structures;
 
 pub use fault::SpaceFault;
 pub use number::{BASIC, Extent, Kept, Operation, Progress, Receipt, TypeNumber};
