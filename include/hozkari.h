@@ -122,6 +122,18 @@ int32_t dt_c_type_contiguous(dt_lib *lib, int32_t count, dt_type oldtype, dt_typ
 int32_t dt_c_type_vector(dt_lib *lib, int32_t count, int32_t blocklength, int32_t stride, dt_type oldtype, dt_type *newtype);
 int32_t dt_c_type_create_hvector(dt_lib *lib, int32_t count, int32_t blocklength, int64_t stride, dt_type oldtype, dt_type *newtype);
 int32_t dt_c_type_create_resized(dt_lib *lib, dt_type oldtype, int64_t lb, int64_t extent, dt_type *newtype);
+int32_t dt_c_type_indexed(dt_lib *lib, const int32_t *blocklengths, size_t blocks, const int32_t *displacements, size_t places,
+                          dt_type oldtype, dt_type *newtype);
+int32_t dt_c_type_create_hindexed(dt_lib *lib, const int32_t *blocklengths, size_t blocks, const int64_t *displacements, size_t places,
+                                  dt_type oldtype, dt_type *newtype);
+int32_t dt_c_type_create_indexed_block(dt_lib *lib, int32_t blocklength, const int32_t *displacements, size_t places, dt_type oldtype,
+                                       dt_type *newtype);
+int32_t dt_c_type_create_hindexed_block(dt_lib *lib, int32_t blocklength, const int64_t *displacements, size_t places, dt_type oldtype,
+                                        dt_type *newtype);
+int32_t dt_c_type_create_struct(dt_lib *lib, const int32_t *blocklengths, size_t blocks, const int64_t *displacements, size_t places,
+                                const dt_type *types, size_t olds, dt_type *newtype);
+int32_t dt_c_type_create_subarray(dt_lib *lib, const int32_t *sizes, size_t ndims, const int32_t *subsizes, size_t subs,
+                                  const int32_t *starts, size_t places, bool fortran, dt_type oldtype, dt_type *newtype);
 int32_t dt_c_type_dup(dt_lib *lib, dt_type oldtype, dt_type *newtype);
 int32_t dt_c_type_commit(dt_lib *lib, dt_type datatype);
 int32_t dt_c_type_free(dt_lib *lib, dt_type datatype);
@@ -194,6 +206,68 @@ static inline int dt_type_vector(dt_lib *lib, int count, int blocklength, int st
 /* MPI_Type_create_hvector: blocks begin stride bytes apart. DT_ERR_ARG where count or blocklength is negative. */
 static inline int dt_type_create_hvector(dt_lib *lib, int count, int blocklength, int64_t stride, dt_type oldtype, dt_type *newtype) {
     return lib && newtype ? dt_c_type_create_hvector(lib, count, blocklength, stride, oldtype, newtype) : DT_ERR_ARG;
+}
+
+/* How the indices of an array follow one another: in C the last one runs fastest, in Fortran the first. */
+typedef enum { DT_ORDER_C = 0, DT_ORDER_FORTRAN = 1 } dt_order;
+
+/* MPI_Type_indexed: each list has count members. DT_ERR_ARG where count or a length is negative. */
+static inline int dt_type_indexed(dt_lib *lib, int count, const int blocklengths[], const int displacements[], dt_type oldtype,
+                                  dt_type *newtype) {
+    static const int none = 0;
+    if (!lib || !newtype || count < 0 || (count && (!blocklengths || !displacements))) return DT_ERR_ARG;
+    if (!count) blocklengths = displacements = &none;
+    return dt_c_type_indexed(lib, blocklengths, (size_t)count, displacements, (size_t)count, oldtype, newtype);
+}
+
+/* MPI_Type_create_hindexed: displacements in bytes. DT_ERR_ARG where count or a length is negative. */
+static inline int dt_type_create_hindexed(dt_lib *lib, int count, const int blocklengths[], const int64_t displacements[], dt_type oldtype,
+                                          dt_type *newtype) {
+    static const int none = 0;
+    static const int64_t nowhere = 0;
+    if (!lib || !newtype || count < 0 || (count && (!blocklengths || !displacements))) return DT_ERR_ARG;
+    if (!count) blocklengths = &none, displacements = &nowhere;
+    return dt_c_type_create_hindexed(lib, blocklengths, (size_t)count, displacements, (size_t)count, oldtype, newtype);
+}
+
+/* MPI_Type_create_indexed_block. DT_ERR_ARG where count or blocklength is negative. */
+static inline int dt_type_create_indexed_block(dt_lib *lib, int count, int blocklength, const int displacements[], dt_type oldtype,
+                                               dt_type *newtype) {
+    static const int none = 0;
+    if (!lib || !newtype || count < 0 || (count && !displacements)) return DT_ERR_ARG;
+    if (!count) displacements = &none;
+    return dt_c_type_create_indexed_block(lib, blocklength, displacements, (size_t)count, oldtype, newtype);
+}
+
+/* MPI_Type_create_hindexed_block: displacements in bytes. DT_ERR_ARG where count or blocklength is negative. */
+static inline int dt_type_create_hindexed_block(dt_lib *lib, int count, int blocklength, const int64_t displacements[], dt_type oldtype,
+                                                dt_type *newtype) {
+    static const int64_t nowhere = 0;
+    if (!lib || !newtype || count < 0 || (count && !displacements)) return DT_ERR_ARG;
+    if (!count) displacements = &nowhere;
+    return dt_c_type_create_hindexed_block(lib, blocklength, displacements, (size_t)count, oldtype, newtype);
+}
+
+/* MPI_Type_create_struct: displacements in bytes, and an old type for each part. DT_ERR_TYPE where one of them stands for nothing,
+ * DT_ERR_ARG where count or a length is negative. */
+static inline int dt_type_create_struct(dt_lib *lib, int count, const int blocklengths[], const int64_t displacements[],
+                                        const dt_type types[], dt_type *newtype) {
+    static const int none = 0;
+    static const int64_t nowhere = 0;
+    static const dt_type nothing = {0, 0};
+    if (!lib || !newtype || count < 0 || (count && (!blocklengths || !displacements || !types))) return DT_ERR_ARG;
+    if (!count) blocklengths = &none, displacements = &nowhere, types = &nothing;
+    return dt_c_type_create_struct(lib, blocklengths, (size_t)count, displacements, (size_t)count, types, (size_t)count, newtype);
+}
+
+/* MPI_Type_create_subarray: each list has ndims members. DT_ERR_ARG where ndims is less than 1, order is none of the two, a part has no
+ * indices, or it doesn't lie in the array. */
+static inline int dt_type_create_subarray(dt_lib *lib, int ndims, const int sizes[], const int subsizes[], const int starts[],
+                                          dt_order order, dt_type oldtype, dt_type *newtype) {
+    if (!lib || !newtype || ndims < 1 || !sizes || !subsizes || !starts || (order != DT_ORDER_C && order != DT_ORDER_FORTRAN))
+        return DT_ERR_ARG;
+    return dt_c_type_create_subarray(lib, sizes, (size_t)ndims, subsizes, (size_t)ndims, starts, (size_t)ndims, order == DT_ORDER_FORTRAN,
+                                     oldtype, newtype);
 }
 
 /* MPI_Type_create_resized: the old type with this lower bound and extent in place of its own. */

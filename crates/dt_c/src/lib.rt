@@ -2,9 +2,11 @@
 #![tactic(auto)]
 
 mod answer;
+mod arrays;
 pub mod control;
 pub mod held;
 pub mod library;
+pub mod lists;
 mod packing;
 pub mod parts;
 pub mod sessions;
