@@ -13,8 +13,8 @@ DAMAGED = 12  # texts that are made of each certificate
 class Made:
     """A script and what comes of it."""
 
-    def __init__(self, seed, length, without):
-        made = script.Script(seed, without)
+    def __init__(self, seed, length, without, slow):
+        made = script.Script(seed, without, slow)
         made.mood = made.rng.choice(("trees", "plain", "shapes"))
         made.picks.room = made.one(4, 8, 12)
         made.text(length)
@@ -162,9 +162,9 @@ class Damage:
             return text  # an earlier change left nothing to change
 
 
-def try_certificates(program, seed, length, without):
+def try_certificates(program, seed, length, without, slow):
     """Certificates of two types of a script, and texts made of them: how many texts were tried, and the first difference with its input."""
-    made = Made(seed, length, without)
+    made = Made(seed, length, without, slow)
     try:
         return try_certificates_of(program, made, without)
     except machine.Wrong as wrong:
