@@ -89,7 +89,7 @@ class Picks:
 
     def kind(self):
         if self.chance(40):
-            return self.one("MPI_INT", "MPI_BYTE", "MPI_SHORT", "MPI_LONG")
+            return self.one("MPI_INT", "MPI_BYTE", "MPI_SHORT", "MPI_LONG", "MPI_UNSIGNED_LONG")
         return self.rng.choice(list(WRITTEN) if self.chance(20) else [kind.name for kind in KINDS])
 
     def type_word(self, fresh=45):
@@ -172,7 +172,7 @@ class Picks:
             return f"dup {word}"
         order = self.one("c", "fortran")
         if name == "subarray":
-            if self.chance(1):
+            if self.chance(self.edge // 3):
                 return " ".join([name, order, word] + ["1:1:0"] * self.rng.randint(20, 66))
             return " ".join([name, order, word, *(self.subarray_dimension() for _ in range(self.one(0, 1, 1, 2, 2, 2, 3, 3, 4)))])
         return self.darray(order, word)

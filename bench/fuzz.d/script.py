@@ -49,7 +49,7 @@ MOODS = {
     "names": {},
     "crowd of types": {},
     "crowd of buffers": {},
-    "crowd of sessions": {"pack": 20, "unpack": 20, "close": 15, "take": 20, "give": 20},
+    "crowd of sessions": {"pack": 30, "unpack": 30, "close": 8, "take": 20, "give": 20},
     "large": {"buffer": 20, "pack": 15, "unpack": 15},
     "deep": {"type": 40, "export": 8, "import": 8},
     "edges": {"type": 60, "info": 30, "elements": 15, "bytes": 15, "map": 10},
@@ -124,7 +124,7 @@ class Script:
         for _ in range(self.rng.randint(1, 4)):
             self.say(f"buffer {picks.new_name('b', ())} count {self.rng.randint(8, 120)}")
         if self.mood == "crowd of sessions":
-            for _ in range(self.one(250, 255, 256)):
+            for _ in range(self.one(254, 255, 256)):
                 word = self.one("pack", "unpack")
                 self.say(f"{word} {picks.new_name('s', ())} native {self.rng.randint(0, 3)} MPI_BYTE {picks.buffer_word()} 0")
         if self.mood == "deep":
@@ -141,9 +141,10 @@ class Script:
         picks = self.picks
         word = self.one("MPI_INT", picks.type_word())
         deepens = self.one("dup", "contiguous 1", "resized 0 4", "subarray c", "struct")
-        for _ in range(self.rng.randint(58, 66)):
+        dimensions = self.one(1, 2, 3, 5)
+        for _ in range(self.rng.randint(58, 66) // (dimensions if deepens == "subarray c" else 1)):
             name = picks.new_name("t", ())
-            tail = f"1@0@{word}" if deepens == "struct" else f"{word} 1:1:0" if deepens == "subarray c" else word
+            tail = f"1@0@{word}" if deepens == "struct" else word + " 1:1:0" * dimensions if deepens == "subarray c" else word
             self.say(f"type {name} = {deepens} {tail}")
             word = name if name in self.machine.types else word
         word = picks.kind()
@@ -160,7 +161,7 @@ class Script:
         return self.rng.choice(choices)
 
     def rep(self):
-        return self.one("native", "native", "external32")
+        return self.one("native", "external32") if self.mood == "pieces" else self.one("native", "native", "external32")
 
     # One line for each command
 
@@ -169,7 +170,9 @@ class Script:
         if self.mood == "names" and picks.machine.types and picks.chance(50):
             return f"type {picks.standing(picks.machine.types)} = {picks.constructor()}"
         if self.mood == "edges" and picks.chance(15):
-            return f"type {picks.new_name('t', picks.machine.types)} = {self.brink()}"
+            name = picks.new_name("t", ())
+            self.say(f"type {name} = {self.brink()}")
+            return f"rebuild {picks.new_name('t', ())} = {name}" if picks.chance(40) else f"info {name}"
         if self.mood == "trees" and picks.chance(30):
             return f"type {picks.new_name('t', picks.machine.types)} = {self.repeated()}"
         return f"type {picks.new_name('t', picks.machine.types)} = {picks.constructor()}"
@@ -250,6 +253,9 @@ class Script:
 
     def wire_text(self):
         """The text of a type, mostly with some bytes turned, cut off or put in."""
+        if self.picks.chance(10 if self.mood == "deep" else 1):
+            levels = self.rng.randint(60, 66)
+            return wire.HEAD + self.one(b"\x01", b"\x02\x00\x00\x00\x01") * levels + self.one(b"\x00\x06", b"\x09\x00\x00\x00\x00")
         text = bytearray(wire.export(self.picks.found(self.picks.type_word())))
         roll = self.rng.randrange(100)
         if roll < 25:

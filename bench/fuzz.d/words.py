@@ -13,8 +13,8 @@ DAMAGED = 12  # texts that are made of each certificate
 class Made:
     """A script and what comes of it."""
 
-    def __init__(self, seed, length, without):
-        made = script.Script(seed, without)
+    def __init__(self, seed, length, without, slow):
+        made = script.Script(seed, without, slow)
         made.mood = made.rng.choice(("trees", "plain", "shapes"))
         made.picks.room = made.one(4, 8, 12)
         made.text(length)
@@ -162,9 +162,16 @@ class Damage:
             return text  # an earlier change left nothing to change
 
 
-def try_certificates(program, seed, length, without):
+def try_certificates(program, seed, length, without, slow):
     """Certificates of two types of a script, and texts made of them: how many texts were tried, and the first difference with its input."""
-    made = Made(seed, length, without)
+    made = Made(seed, length, without, slow)
+    try:
+        return try_certificates_of(program, made, without)
+    except machine.Wrong as wrong:
+        return 0, Difference(None, b"run", "a least tree, but " + str(wrong), "another"), b"".join(made.lines)
+
+
+def try_certificates_of(program, made, without):
     rng = made.rng
     tried = 0
     for _ in range(2):
@@ -249,7 +256,10 @@ def generated(number):
 def differs_in_totals(program, number):
     """Why the totals that are told of a generated script aren't those of its replies, or none."""
     text = generated(number)
-    model, refusal = state_after(program, text, ())
+    try:
+        model, refusal = state_after(program, text, ())
+    except machine.Wrong as wrong:
+        return Difference(None, b"the generated script", f"a least tree, but {wrong}", "another")
     if refusal is not None:
         return Difference(None, b"the generated script", "no refusal", refusal)
     wanted = " ".join(["gen", str(number), *(f"{word} {total}" for word, total in model.totals.items())]) + "\n"

@@ -20,10 +20,11 @@ class Bomb:
 
 
 class Measured:
-    """What a run took."""
+    """What a run took: seconds by the clock and of the processor, and the peak of memory."""
 
-    def __init__(self, size, written, seconds, mebibytes, fault):
-        self.size, self.written, self.seconds, self.mebibytes, self.fault = size, written, seconds, mebibytes, fault
+    def __init__(self, size, written, seconds, processor, mebibytes, fault):
+        self.size, self.written, self.fault = size, written, fault
+        self.seconds, self.processor, self.mebibytes = seconds, processor, mebibytes
 
 
 def repeated(piece, times):
@@ -68,17 +69,17 @@ def measured(program, bomb):
             for piece in joined(bomb.pieces()):
                 file.write(piece)
         size = os.path.getsize(paths["input"])
-        command = [TIME, "-f", "%e %M", "-o", paths["time"], program, *bomb.words]
+        command = [TIME, "-f", "%e %U %S %M", "-o", paths["time"], program, *bomb.words]
         with open(paths["input"], "rb") as stdin, open(paths["replies"], "wb") as stdout:
             try:
                 status = subprocess.run(command, stdin=stdin, stdout=stdout, stderr=subprocess.DEVNULL, timeout=SECONDS).returncode
             except subprocess.TimeoutExpired:
-                return Measured(size, 0, SECONDS, 0, f"no end after {SECONDS} seconds")
+                return Measured(size, 0, SECONDS, 0, 0, f"no end after {SECONDS} seconds")
         with open(paths["time"]) as file:
-            seconds, kibibytes = file.read().split("\n")[-2].split()
+            seconds, user, system, kibibytes = map(float, file.read().split("\n")[-2].split())
         fault = None if status == bomb.status else f"status {status} in place of {bomb.status}"
         if bomb.replies is not None:
             fault = fault or first_difference(paths["replies"], bomb.replies())
         if bomb.fault is not None:
             fault = fault or bomb.fault(program, paths["replies"])
-        return Measured(size, os.path.getsize(paths["replies"]), float(seconds), int(kibibytes) / 1024, fault)
+        return Measured(size, os.path.getsize(paths["replies"]), seconds, user + system, kibibytes / 1024, fault)

@@ -13,8 +13,7 @@ fn machine(rt: HostRuntime) -> Result<(), Fail> {
     assert!(rt; machine.line(b"type v = contiguous 2 MPI_INT", &mut out)?);
     assert!(rt; !machine.line(b"type v = contiguous 2 MPI_INT", &mut out)?);
     assert!(rt; machine.line(b"child x = v 0", &mut out)?);
-    let command = parse_line(alloc, b"map v").map_err(|_| Fail::from("syntax"))?;
-    let Some(command) = command else {
+    let Ok(Some(command)) = parse_line(alloc, b"map v") else {
         return Err(Fail::from("no command"));
     };
     assert!(rt; machine.step(&command, &mut out)?);
