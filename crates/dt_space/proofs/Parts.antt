@@ -1,5 +1,5 @@
 -- The parts of a struct, one after another; and a constructor that refuses.
-use Rattle.std.specs.Prelude.{◌≡◌, ℕ, zero, suc, ◌+◌, ◌<◌, Option, Some, None, Result, MatchResult, IsErrAnd, List, [], ◌∷◌, ◌++◌, take, get_or, length}
+use Rattle.std.specs.Prelude.{◌≡◌, ℕ, zero, suc, ◌+◌, ◌<◌, Option, Some, None, Result, IsErrAnd, List, [], ◌∷◌, ◌++◌, take, get_or, length}
 use Rattle.std.proofs.Common.{refl, sym, ap, subst, ◌∙◌, arith}
 use Rattle.std.proofs.lemmas.List.{take_more}
 use Rattle.std.specs.Option.{option_map, IsSomeAnd}

@@ -1,5 +1,5 @@
 -- Sessions under numbers: packed bytes in pieces.
-use Rattle.std.specs.Prelude.{◌≡◌, ◌≢◌, ℕ, ◌+◌, ◌<◌, min, Option, Some, None, Result, Ok, Err, MatchOption, MatchResult, List, ◌++◌, drop, length}
+use Rattle.std.specs.Prelude.{◌≡◌, ◌≢◌, ℕ, ◌+◌, ◌<◌, min, Option, Result, Ok, Err, MatchOption, MatchResult, List, ◌++◌, drop, length}
 use Rattle.std.specs.BTreeMap.{is_at, insert_entry}
 use Rattle.std.specs.Map.{lookup, set_value, remove_entry}
 use Rattle.std.specs.Ordering.{nat_cmp}
