@@ -35,6 +35,9 @@ normalise g
 type f = contiguous 1025 MPI_BYTE
 normalise f
 """
+GREATEST_TREE = """type g = contiguous 1024 MPI_BYTE
+normalise g
+"""
 EVERY_COMMAND = """type t1 = contiguous 2 MPI_INT
 type t2 = vector 2 1 2 MPI_INT
 type t3 = hvector 2 1 8 MPI_INT
@@ -106,16 +109,18 @@ def only(text, without):
 
 
 def inputs(without):
-    """Name, words and input of each."""
+    """Name, words and input of each, and how far one allocation that is refused lies behind the one before: 1, where they aren't too many."""
     certified = "".join(line for line in TREES.splitlines(keepends=True) if not line.endswith((" f\n", "1025 MPI_BYTE\n")))
     found = [
-        ("pieces", ["run"], only(PIECES, without)),
-        ("a cut element", ["run"], only(CUT, without)),
-        ("least trees", ["run"], only(TREES, without)),
-        ("every command", ["run"], only(EVERY_COMMAND, without)),
-        ("a certificate written", ["certify", "a"], only(certified, without)),
-        ("a certificate checked", ["check"], CERTIFICATE.encode()),
-        ("a certificate migrated", ["migrate"], CERTIFICATE.encode()),
-        ("an old one migrated", ["migrate"], CERTIFICATE.replace("dtcert 2", "dtcert 1").encode()),
+        ("pieces", ["run"], only(PIECES, without), 1),
+        ("a cut element", ["run"], only(CUT, without), 1),
+        ("least trees", ["run"], only(TREES, without), 1),
+        ("the greatest least tree", ["run"], only(GREATEST_TREE, without), 61),
+        ("every command", ["run"], only(EVERY_COMMAND, without), 1),
+        ("a certificate written", ["certify", "a"], only(certified, without), 1),
+        ("a certificate checked", ["check"], CERTIFICATE.encode(), 1),
+        ("a certificate migrated", ["migrate"], CERTIFICATE.encode(), 1),
+        ("an old one migrated", ["migrate"], CERTIFICATE.replace("dtcert 2", "dtcert 1").encode(), 1),
+        ("totals", ["gen", "1"], b"", 997),
     ]
-    return [(name, words, text) for name, words, text in found if words[0] not in without]
+    return [it for it in found if it[1][0] not in without]
