@@ -1,12 +1,12 @@
 //! Closures kept beside the fact that they answer a law's join.
 ghost use Rattle.std.specs.Prelude.{◌≡◌, ℕ};
 ghost use Rattle.dt_kinds.specs.declared.kind.Kind.{Kind};
-ghost use Rattle.dt_ops.specs.Stored.{TakesWords, Joins, TakesWords-prop};
+ghost use Rattle.dt_ops.specs.Stored.{TakesWords, Joins};
 ghost use Rattle.dt_ops.specs.Word.{IsWord};
 
 use crate::law::Law;
 use dt_kinds::Kind;
-use std::marker::PhantomData;
+use std::marker::{Model, PhantomData};
 
 /// What can be called on a kind and two numbers, and answers a number: every closure and every function of that shape.
 pub trait Call {
@@ -37,8 +37,15 @@ impl<F: Fn(Kind, u64, u64) -> u64> Call for F {
 pub struct StoredOp<L: Law, F: Call> {
     f: F,
     law: PhantomData<L>,
-    ghost takes_words: { TakesWords (F.may f) } by { TakesWords-prop (F.may f) },
-    ghost joins: { Joins L.join (F.gives f) },
+}
+
+/// Contracts see the closure.
+impl<L: Law, F: Call> Model for StoredOp<L, F> {
+    ghost Value = { F };
+
+    ghost view = { λ op. op.f };
+
+    ghost invariant = { λ op. TakesWords (F.may op.f) × Joins L.join (F.gives op.f) };
 }
 
 impl<L: Law, F: Call> StoredOp<L, F> {
@@ -46,6 +53,7 @@ impl<L: Law, F: Call> StoredOp<L, F> {
     pub fn new(f: F) -> StoredOp<L, F>
         requires takes_words { TakesWords (F.may f) }
         requires joins { Joins L.join (F.gives f) }
+        ensures { result ≡ f }
     {
         StoredOp {
             f,
