@@ -1,21 +1,19 @@
 -- What comes next of the bytes of elements, by the rows that a walk names.
-use Rattle.std.proofs.Common.{◌≡◌, ℕ, zero, suc, ◌+◌, ◌-◌, ◌*◌, ◌≤◌, true, ℤ, pos, ◌+ℤ◌, ◌*ℤ◌, List, [], ◌∷◌, ◌++◌, map, take, drop, length, replicate, refl, SFits, sym, ap, subst, ◌∙◌, arith, append-nil, length-drop}
+use Rattle.std.proofs.Common.{◌≡◌, ℕ, suc, ◌+◌, ◌-◌, ◌*◌, ◌≤◌, true, ℤ, pos, ◌+ℤ◌, ◌*ℤ◌, List, [], ◌∷◌, ◌++◌, map, take, drop, length, replicate, refl, SFits, sym, ap, subst, ◌∙◌, arith, length-drop}
 use Rattle.std.specs.Prelude.{nat_abs}
 use Rattle.std.specs.List.{flat_map}
-use Rattle.std.proofs.lemmas.Bool.{and_parts}
 use Rattle.std.proofs.lemmas.Grind.{flat_map-append}
 use Rattle.std.proofs.lemmas.Int.{ints, fits_signed_from_abs}
 use Rattle.std.specs.Int.{w64}
 use Rattle.std.proofs.lemmas.List.{take-append-le, drop-append-le, drop-replicate, length-replicate, take-replicate, replicate-append-replicate}
-use Rattle.std.proofs.lemmas.List.Folds.{list_all-append}
 use Rattle.std.proofs.Math.Seq.{drop-append-add}
 use Rattle.dt_cursor.specs.Walk.{Walk, AreNext}
 use Rattle.dt_kinds.specs.declared.kind.Kind.{Kind}
 use Rattle.dt_kinds.specs.declared.kind.Kind.TheVariants.{Byte}
 use Rattle.dt_kinds.specs.declared.kind.Rep.TheVariants.{Native}
-use Rattle.dt_kinds.specs.Kind.{native_size, packed_size}
+use Rattle.dt_kinds.specs.Kind.{native_size}
 use Rattle.dt_map.specs.declared.entry.Entry.{Entry}
-use Rattle.dt_map.specs.Elements.{are_inside, lies_inside}
+use Rattle.dt_map.specs.Elements.{are_inside}
 use Rattle.dt_map.specs.Packed.{total}
 use Rattle.dt_map.specs.Typemap.{shift}
 use Rattle.dt_map.proofs.Copies.{total-append, total-shift}

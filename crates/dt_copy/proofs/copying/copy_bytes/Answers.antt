@@ -1,4 +1,4 @@
-use Rattle.std.proofs.Common.{length, take, sym, ap, ◌∙◌, arith}
+use Rattle.std.proofs.Common.{take, sym, ap, ◌∙◌, arith}
 use Rattle.dt_copy.specs.Copied.{copied}
 use Rattle.dt_copy.specs.Side.{Reader, at_byte, onward, bytes_of, rest_of, to_come}
 use Rattle.dt_copy.proofs.Pieces.{piece_more}

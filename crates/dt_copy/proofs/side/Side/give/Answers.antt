@@ -1,4 +1,4 @@
-use Rattle.std.proofs.Common.{◌-◌, take, drop, length, arith, length-drop}
+use Rattle.std.proofs.Common.{◌-◌, drop, length, arith, length-drop}
 use Rattle.std.proofs.lemmas.List.{length-take-le}
 use Rattle.dt_copy.proofs.Pieces.{given_more, moved_more}
 use Rattle.dt_copy.proofs.side.Side.give.Goals as goal

@@ -1,4 +1,4 @@
-use Rattle.std.proofs.Common.{ap, ◌∙◌, arith}
+use Rattle.std.proofs.Common.{◌∙◌, arith}
 use Rattle.dt_kinds.specs.declared.kind.Rep.TheVariants.{Native}
 use Rattle.dt_rows.proofs.Totals.{some_bytes}
 use Rattle.dt_copy.proofs.Pieces.{rows_lie, rows_scattered}
