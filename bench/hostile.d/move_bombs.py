@@ -63,7 +63,7 @@ def wires():
     for level in range(2, 15):
         yield f"type s{level} = struct 1@0@s{level - 1} 1@0@s{level - 1}"
     text = doubled(14)
-    for number in range(20):
+    for number in range(16):
         yield ("export s14", f"wire {len(text)} {text.hex()}")
         yield f"import w{number} = {text.hex()}"
     tall = HEAD + b"\x01" * 63 + b"\x00\x06"

@@ -1,40 +1,34 @@
 -- What comes next of the bytes of elements, by the rows that a walk names.
-use Rattle.std.proofs.Common.{◌≡◌, ℕ, zero, suc, ◌+◌, ◌-◌, ◌*◌, ◌≤◌, true, ℤ, pos, ◌+ℤ◌, ◌*ℤ◌, List, [], ◌∷◌, ◌++◌, map, take, drop, length, replicate, refl, sym, ap, subst, ◌∙◌, arith, append-nil, length-drop}
+use Rattle.std.proofs.Common.{◌≡◌, ℕ, suc, ◌+◌, ◌-◌, ◌*◌, ◌≤◌, true, ℤ, pos, ◌+ℤ◌, ◌*ℤ◌, List, [], ◌∷◌, ◌++◌, map, take, drop, length, replicate, refl, SFits, sym, ap, subst, ◌∙◌, arith, length-drop}
 use Rattle.std.specs.Prelude.{nat_abs}
 use Rattle.std.specs.List.{flat_map}
-use Rattle.std.proofs.lemmas.Bool.{and_parts}
 use Rattle.std.proofs.lemmas.Grind.{flat_map-append}
-use Rattle.std.proofs.lemmas.Int.{ints}
+use Rattle.std.proofs.lemmas.Int.{ints, fits_signed_from_abs}
+use Rattle.std.specs.Int.{w64}
 use Rattle.std.proofs.lemmas.List.{take-append-le, drop-append-le, drop-replicate, length-replicate, take-replicate, replicate-append-replicate}
-use Rattle.std.proofs.lemmas.List.Folds.{list_all-append}
 use Rattle.std.proofs.Math.Seq.{drop-append-add}
-use Rattle.dt_cursor.specs.Walk.{Walk, AreNext, IsNext, one_row}
+use Rattle.dt_cursor.specs.Walk.{Walk, AreNext}
 use Rattle.dt_kinds.specs.declared.kind.Kind.{Kind}
 use Rattle.dt_kinds.specs.declared.kind.Kind.TheVariants.{Byte}
 use Rattle.dt_kinds.specs.declared.kind.Rep.TheVariants.{Native}
-use Rattle.dt_kinds.specs.Kind.{native_size, packed_size}
+use Rattle.dt_kinds.specs.Kind.{native_size}
 use Rattle.dt_map.specs.declared.entry.Entry.{Entry}
-use Rattle.dt_map.specs.Elements.{are_inside, lies_inside}
+use Rattle.dt_map.specs.Elements.{are_inside}
 use Rattle.dt_map.specs.Packed.{total}
 use Rattle.dt_map.specs.Typemap.{shift}
 use Rattle.dt_map.proofs.Copies.{total-append, total-shift}
 use Rattle.dt_map.proofs.Placings.{shift-append}
 use Rattle.dt_offsets.specs.Offsets.{row_offsets}
 use Rattle.dt_rows.specs.declared.rows.Rows.{Rows}
-use Rattle.dt_rows.specs.declared.rows.Run.{Run}
 use Rattle.dt_rows.specs.Pieces.{IsPiece}
-use Rattle.dt_rows.specs.Rows.{element_at, adjacent, elements_of_rows, bytes_in}
+use Rattle.dt_rows.specs.Rows.{element_at, adjacent, elements_of_rows, AreRows, bytes_in}
 use Rattle.dt_rows.proofs.InsideRows.{row_inside}
 use Rattle.dt_rows.proofs.Packing.{some_elements}
 use Rattle.dt_rows.proofs.Totals.{bytes_within, some_bytes}
 use Rattle.dt_copy.specs.declared.side.Stretch.{Stretch}
-use Rattle.dt_copy.specs.declared.span.Span.{Span}
-use Rattle.dt_copy.specs.Side.{Reader, IsNextSpan, IsNextStretch, bytes_of, kinds_of}
-use Rattle.dt_copy.proofs.Bytes.{adjacent_more, adjacent_parts, adjacent_cut, bytes_from}
+use Rattle.dt_copy.specs.Side.{Reader, AreNextBytes, IsNextStretch, bytes_at_rows, bytes_of, kinds_of}
 use Rattle.dt_copy.proofs.Elements.{length-all, length-bytes_of, length-kinds_of, bytes_sized, kinds_sized}
-
-inside-append : (len : ℕ) (es fs : List Entry) → are_inside len (es ++ fs) ≡ true → (are_inside len es ≡ true) × (are_inside len fs ≡ true)
-inside-append len es fs all = and_parts (are_inside len es) (are_inside len fs) (sym (list_all-append (lies_inside len) es fs) ∙ all)
+use Rattle.dt_copy.proofs.Named.{bytes_inside, inside-append, inside_piece, named_bytes_are}
 
 module _ (w : Walk) (r : Rows) (next : AreNext w r) (o : ℤ) where
   abbrev before : List Entry
@@ -82,6 +76,18 @@ module _ (w : Walk) (r : Rows) (next : AreNext w r) (o : ℤ) where
         ∙ ap (take (bytes_in r)) (drop-append-add a (b ++ c) r.run.skip ∙ drop-append-le r.run.skip b c (omega (arith, wide, within)))
         ∙ take-append-le (bytes_in r) (drop r.run.skip b) c (omega (arith, wide, within, length-drop r.run.skip b))
 
+-- places in a small buffer fit into 64 bits
+module _ (len skip bytes : ℕ) (x : ℤ) (first : IsPiece len (skip + bytes) x) (small : len ≤ 16777216) where
+  pub start_fits : SFits w64 x
+  start_fits = (let within = first.within in fits_signed_from_abs w64 x (omega (arith, within, small)))
+
+  pub first_fits : SFits w64 (x +ℤ pos skip)
+  first_fits =
+      let within = first.within in
+      let from = first.from in
+      let place : nat_abs (x +ℤ pos skip) ≡ nat_abs x + skip = omega (arith, ints, from) in
+      fits_signed_from_abs w64 (x +ℤ pos skip) (omega (arith, within, small, place))
+
 -- all bytes that a walk goes by are those of its elements
 pub whole_bytes : (w : Walk) (o : ℤ) → w.rep ≡ Native → total w.rep w.elements ≡ length (bytes_of (shift o w.elements))
 whole_bytes w o native = ap (λ rep. total rep w.elements) native ∙ sym (total-shift Native o w.elements) ∙ sym (length-bytes_of (shift o w.elements))
@@ -111,74 +117,41 @@ kinds_of_rows kind n o (x ∷ xs) =
           ∙ replicate-append-replicate k rest.0 kind,
     )
 
--- the bytes of a run
-bytes_of_run : (kind : Kind) (n : ℕ) (x o : ℤ) → bytes_of (shift o (adjacent kind n x)) ≡ bytes_from (n * native_size kind) (x +ℤ o)
-bytes_of_run kind zero x o = (let none : 0 * native_size kind ≡ 0 = omega arith in ap (λ n. bytes_from n (x +ℤ o)) (sym none))
-bytes_of_run kind (suc n) x o =
-    let s = native_size kind in
-    let more : n * s + s ≡ suc n * s = omega arith in
-    let y = x +ℤ (pos n *ℤ pos s) in
-    let place : y +ℤ o ≡ (x +ℤ o) +ℤ pos (n * s) = omega (arith, ints) in
-    ap (λ es. bytes_of (shift o es)) (adjacent_more kind n x)
-    ∙ ap bytes_of (shift-append o (adjacent kind n x) (element_at kind y ∷ []))
-    ∙ flat_map-append (λ e. adjacent Byte (native_size e.kind) e.disp) (shift o (adjacent kind n x)) (shift o (element_at kind y ∷ []))
-    ∙ ap (λ es. es ++ (bytes_from s (y +ℤ o) ++ [])) (bytes_of_run kind n x o)
-    ∙ ap (λ es. bytes_from (n * s) (x +ℤ o) ++ es) (append-nil (bytes_from s (y +ℤ o)) ∙ ap (bytes_from s) place)
-    ∙ sym (adjacent_parts (n * s) s (x +ℤ o)) ∙ ap (λ k. bytes_from k (x +ℤ o)) more
+module _ (w : Walk) (r : Rows) (next : AreNext w r) (native : w.rep ≡ Native) (o : ℤ) (len : ℕ) (inside : are_inside len (shift o w.elements) ≡ true) where
+  shape : AreRows Native r
+  shape = subst (λ rep. AreRows rep r) native next.shape
 
-module _ (w : Walk) (run : Run) (next : IsNext w run) (native : w.rep ≡ Native) (o : ℤ) (len : ℕ) (inside : are_inside len (shift o w.elements) ≡ true) where
-  abbrev size : ℕ
-  size = native_size run.kind
+  -- the first of rows that come next lies in the buffer
+  pub first_inside : IsPiece len (r.run.skip + r.run.bytes) (r.run.disp +ℤ o)
+  first_inside =
+      let all = rows_inside w r next o len inside in
+      let row = row_inside len r o (r.run.disp +ℤ o) all (some_elements Native r.run shape.run) refl 0 shape.some in
+      let same : (r.run.disp +ℤ o) +ℤ (pos 0 *ℤ r.step) ≡ r.run.disp +ℤ o = omega (arith, ints) in
+      let from = subst (λ x. IsPiece len (r.run.elements * native_size r.run.kind) x) same row in
+      let most = from.within in
+      let cut = shape.run.within in
+      record { from = from.from; within = omega (arith, most, cut) }
 
-  within : run.skip + run.bytes ≤ run.elements * size
-  within = subst (λ rep. run.skip + run.bytes ≤ run.elements * packed_size rep run.kind) native next.shape.run.within
-
-  -- a run that comes next lies in the buffer
-  pub run_inside : IsPiece len (run.skip + run.bytes) (run.disp +ℤ o)
-  run_inside =
-      let all = rows_inside w (one_row run) next o len inside in
-      let row = row_inside len (one_row run) o (run.disp +ℤ o) all (some_elements w.rep run next.shape.run) refl 0 (omega arith) in
-      let same : (run.disp +ℤ o) +ℤ (pos 0 *ℤ pos 0) ≡ run.disp +ℤ o = omega (arith, ints) in
-      let from = row.from in
-      let most = row.within in
-      let cut = within in
-      record { from = omega (arith, ints, from); within = omega (arith, ints, most, same, ap nat_abs same, cut) }
-
-  pub one_bytes : bytes_in (one_row run) ≡ run.bytes
-  one_bytes = omega arith
-
-  run_elements : elements_of_rows (one_row run) ≡ adjacent run.kind run.elements run.disp
-  run_elements =
-      let same : run.disp +ℤ (pos 0 *ℤ pos 0) ≡ run.disp = omega (arith, ints) in
-      append-nil (adjacent run.kind run.elements (run.disp +ℤ (pos 0 *ℤ pos 0))) ∙ ap (adjacent run.kind run.elements) same
-
-  -- and its bytes are the next ones
-  pub span_is_next : (start : ℕ) → start ≡ nat_abs (run.disp +ℤ o) + run.skip
-      → let r : Reader = record { elements = shift o w.elements; len = len; position = w.position } in
-      let s : Span = record { start = start; len = run.bytes } in IsNextSpan r s
-  span_is_next start is =
-      let here = run_inside in
-      let from = here.from in
-      let most = here.within in
-      let place : (run.disp +ℤ o) +ℤ pos run.skip ≡ pos start = omega (arith, ints, is, from) in
-      let cut = within in
-      let bytes : List Entry → List Entry = bytes_of in
+  -- and their bytes are the next ones
+  pub rows_are_next : len ≤ 16777216 → (let q : Reader = record { elements = shift o w.elements; len = len; position = w.position } in AreNextBytes q (bytes_at_rows o r))
+  rows_are_next small =
+      let some = shape.run.some in
+      let bytes : take (bytes_in r) (drop w.position (bytes_of (shift o w.elements))) ≡ elements_of_rows (bytes_at_rows o r) =
+      next_of w r next o (λ e. adjacent Byte (native_size e.kind) e.disp) bytes_sized native ∙ named_bytes_are r shape o in
+      let one : r.run.bytes ≡ r.run.bytes * 1 = omega arith in
+      let all = length-bytes_of (shift o w.elements) ∙ total-shift Native o w.elements ∙ ap (λ rep. total rep w.elements) (sym native) in
+      let come = still_to_come w r next o in
       record {
-        some = next.shape.run.some;
-        inside = omega (arith, is, most);
-        bytes =
-            ap (λ n. take n (drop w.position (bytes_of (shift o w.elements)))) (sym one_bytes)
-            ∙ next_of w (one_row run) next o (λ e. adjacent Byte (native_size e.kind) e.disp) bytes_sized native
-            ∙ ap (λ n. take n (drop run.skip (bytes_of (shift o (elements_of_rows (one_row run)))))) one_bytes
-            ∙ ap (λ es. take run.bytes (drop run.skip (bytes_of (shift o es)))) run_elements
-            ∙ ap (λ es. take run.bytes (drop run.skip es)) (bytes_of_run run.kind run.elements run.disp o)
-            ∙ adjacent_cut (run.elements * size) run.skip run.bytes (run.disp +ℤ o) cut
-            ∙ ap (bytes_from run.bytes) place;
-        within =
-            (let all = length-bytes_of (shift o w.elements) ∙ total-shift Native o w.elements ∙ ap (λ rep. total rep w.elements) (sym native) in
-            let come = still_to_come w (one_row run) next o in
-            let one = one_bytes in
-            omega (arith, all, come, one));
+        shape = record {
+          some = shape.some;
+          run = record { some = some; skip = omega arith; within = omega arith; each = omega arith };
+          whole = λ more. (refl, one);
+        };
+        whole = (refl, one);
+        bytes = bytes;
+        inside = ap (are_inside len) (sym bytes) ∙ inside_piece len (bytes_in r) w.position (bytes_of (shift o w.elements)) (bytes_inside len (shift o w.elements) inside);
+        small = small;
+        within = omega (arith, all, come);
       }
 
 -- the kinds of rows are the next ones

@@ -1,8 +1,7 @@
 -- One side of a copy: its elements byte for byte, from some byte on.
-use Rattle.std.specs.Prelude.{◌≡◌, ℕ, ◌+◌, ◌<◌, ◌≤◌, pos, IsTrue, List, take, drop, replicate, length}
+use Rattle.std.specs.Prelude.{◌≡◌, ℕ, ◌+◌, ◌-◌, ◌<◌, ◌≤◌, ℤ, pos, ◌+ℤ◌, IsTrue, List, take, drop, replicate, length}
 use Rattle.std.specs.List.{flat_map}
 use Rattle.dt_copy.specs.declared.side.Stretch.{Stretch}
-use Rattle.dt_copy.specs.declared.span.Span.{Span}
 use Rattle.dt_kinds.specs.declared.kind.Kind.{Kind}
 use Rattle.dt_kinds.specs.declared.kind.Kind.TheVariants.{Byte}
 use Rattle.dt_kinds.specs.declared.kind.Rep.{Rep}
@@ -10,7 +9,10 @@ use Rattle.dt_kinds.specs.declared.kind.Rep.TheVariants.{Native}
 use Rattle.dt_kinds.specs.Kind.{native_size}
 use Rattle.dt_map.specs.declared.entry.Entry.{Entry}
 use Rattle.dt_map.specs.Elements.{are_inside}
-use Rattle.dt_rows.specs.Rows.{adjacent}
+use Rattle.dt_map.specs.Packed.{packed}
+use Rattle.dt_rows.specs.declared.rows.Rows.{Rows}
+use Rattle.dt_rows.specs.Rows.{adjacent, elements_of_rows, AreRows, bytes_in}
+use Rattle.dt_rows.specs.Storing.{IsWhole}
 
 -- the bytes of elements, each as an element of its own, in their order
 abbrev pub bytes_of : List Entry → List Entry
@@ -34,9 +36,15 @@ at_byte r byte = record r { position = byte }
 abbrev pub onward : Reader → ℕ → Reader
 onward r n = at_byte r (r.position + n)
 
--- the bytes that are still to come
+-- the bytes that are still to come, how many these are, and the next n of them, of a buffer as it is now
 abbrev pub to_come : Reader → List Entry
 to_come r = drop r.position (bytes_of r.elements)
+
+abbrev pub rest_of : Reader → ℕ
+rest_of r = length (bytes_of r.elements) - r.position
+
+abbrev pub next_bytes : Reader → List ℕ → ℕ → List ℕ
+next_bytes r buffer n = packed Native (take n (to_come r)) buffer
 
 -- a reader goes by the bytes in memory, and its elements lie in their buffer
 pub record IsReader (r : Reader) (rep : Rep) : Type 0 where
@@ -44,16 +52,22 @@ pub record IsReader (r : Reader) (rep : Rep) : Type 0 where
   pub inside : IsTrue (are_inside r.len r.elements)
   pub small : r.len ≤ 16777216
 
--- the bytes of a span, as elements
-abbrev pub bytes_in : Span → List Entry
-bytes_in s = adjacent Byte s.len (pos s.start)
+-- rows as rows of the bytes that they name, from an origin on
+abbrev pub bytes_at_rows : ℤ → Rows → Rows
+bytes_at_rows origin r = record {
+  run = record { kind = Byte; disp = (r.run.disp +ℤ origin) +ℤ pos r.run.skip; elements = r.run.bytes; skip = 0; bytes = r.run.bytes };
+  rows = r.rows;
+  step = r.step;
+}
 
--- a span comes next
-pub record IsNextSpan (r : Reader) (s : Span) : Type 0 where
-  pub some : 0 < s.len
-  pub inside : s.start + s.len ≤ r.len
-  pub bytes : take s.len (to_come r) ≡ bytes_in s
-  pub within : r.position + s.len ≤ length (bytes_of r.elements)
+-- rows of bytes come next
+pub record AreNextBytes (r : Reader) (rows : Rows) : Type 0 where
+  pub shape : AreRows Native rows
+  pub whole : IsWhole Native rows.run
+  pub bytes : take (bytes_in rows) (to_come r) ≡ elements_of_rows rows
+  pub inside : IsTrue (are_inside r.len (elements_of_rows rows))
+  pub small : r.len ≤ 16777216
+  pub within : r.position + bytes_in rows ≤ length (bytes_of r.elements)
 
 -- bytes of elements of one kind come next
 pub record IsNextStretch (r : Reader) (s : Stretch) : Type 0 where

@@ -1,27 +1,36 @@
 //! The bytes of one side, copied to those of the other.
-ghost use Rattle.std.specs.Prelude.{◌≡◌, ◌+◌, ◌≤◌, length};
+ghost use Rattle.std.specs.Prelude.{◌≡◌, ◌<◌, ◌≤◌, ◌^◌, IsTrue, min, take, length};
 ghost use Rattle.dt_copy.specs.Copied.{copied};
-ghost use Rattle.dt_copy.specs.Side.{at_byte, onward, bytes_in, bytes_of, to_come};
+ghost use Rattle.dt_map.specs.Elements.{are_inside};
+ghost use Rattle.dt_copy.specs.Side.{at_byte, onward, bytes_of, rest_of, to_come};
 
 use crate::side::Side;
-use crate::span::{Span, copy_span};
 
-/// Copies a span of the source to the next bytes of the target, in the longest pieces that are adjacent there.
-fn copy_pieces(from: Span, source: &[u8], to: &mut Side, target: &mut [u8])
-    requires source { from.start + from.len ≤ length source.now }
+/// The most bytes that are on their way at a time.
+const PIECE_MAX: usize = 4096;
+
+/// Copies the next bytes of the source to those of the target, as many as have room on the way or as are still to come. Answers how
+/// many these are.
+fn copy_piece(
+    from: &mut Side,
+    source: &[u8],
+    to: &mut Side,
+    target: &mut [u8],
+    piece: &mut [u8],
+) -> usize
+    requires inside { IsTrue (are_inside from.old.len from.old.elements) }
+    requires source { length source.now ≡ from.old.len }
     requires target { length target.old ≡ to.old.len }
-    requires room { to.old.position + from.len ≤ length (bytes_of to.old.elements) }
-    ensures bytes { target.new ≡ copied (bytes_in from) (to_come to.old) source.now target.old }
-    ensures moved { to.new ≡ onward to.old from.len }
+    requires room { rest_of from.old ≤ rest_of to.old }
+    requires near { length piece.old < 2 ^ 63 }
+    ensures count { result ≡ min (length piece.old) (rest_of from.old) }
+    ensures bytes { target.new ≡ copied (take result (to_come from.old)) (to_come to.old) source.now target.old }
+    ensures passed { from.new ≡ onward from.old result }
+    ensures filled { to.new ≡ onward to.old result }
 {
-    let mut done = 0;
-    'pieces: while done < from.len {
-        let Some(piece) = to.next_span(from.len - done) else {
-            unreachable!()
-        };
-        copy_span(source, from.start + done, target, piece);
-        done += piece.len;
-    }
+    let taken = from.take(source, piece);
+    to.give(&piece[..taken], target);
+    taken
 }
 
 /// Copies all bytes of one side to the first ones of the other. Both stand at their first bytes.
@@ -34,7 +43,8 @@ pub(crate) fn copy_bytes(from: &mut Side, source: &[u8], to: &mut Side, target: 
     ensures passed { from.new ≡ at_byte from.old (length (bytes_of from.old.elements)) }
     ensures filled { to.new ≡ at_byte to.old (length (bytes_of from.old.elements)) }
 {
-    'spans: while let Some(span) = from.next_span(usize::MAX) {
-        copy_pieces(span, source, to, target);
+    let mut piece = [0; PIECE_MAX];
+    'pieces: while from.left() > 0 {
+        copy_piece(from, source, to, target, &mut piece);
     }
 }

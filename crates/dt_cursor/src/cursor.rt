@@ -19,19 +19,21 @@ use std::marker::Model;
 use std::rc::Rc;
 
 /// A walk through the packed bytes of the elements for which a program stands, in a representation, from any of them on. It takes no
-/// memory.
+/// memory. The frames stand where the walk stood last: a byte is sought when what comes next there is asked for.
 #[derive(Drop)]
 pub struct Cursor {
     program: Rc<Program>,
     rep: Rep,
     bytes: u64,
     position: u64,
+    stood: u64,
     held: u8,
     frames: Frames,
     ghost stands: { ElementsOf program.value } by { ElementsOf-prop program.value },
 }
 
 impl Model for Cursor {
+    ghost use Rattle.std.specs.Prelude.{◌≤◌};
     ghost use Rattle.dt_cursor.specs.Walk.{Walk};
     ghost use Rattle.dt_cursor.specs.Kept.{Stand};
 
@@ -39,7 +41,7 @@ impl Model for Cursor {
 
     ghost view = { λ c. record { elements = c.stands.0; rep = c.rep; position = c.position } };
 
-    ghost invariant = { λ c. Stand c.program.value c.stands.0 c.rep c.bytes c.position c.frames c.held };
+    ghost invariant = { λ c. Stand c.program.value c.stands.0 c.rep c.bytes c.stood c.frames c.held × (c.position ≤ c.bytes) };
 }
 
 /// Frames that stand at a packed byte, of whose element so many bytes lie before.
@@ -49,6 +51,17 @@ fn stand(program: &Program, rep: Rep, byte: u64, frames: &mut Frames) -> u8
 {
     let mut code = CountedCode::new(program);
     find(&mut code, rep, byte, frames)
+}
+
+/// Frames that stand at a packed byte go to another, unless it is the same one.
+fn go_on(program: &Program, rep: Rep, stood: u64, byte: u64, held: u8, frames: &mut Frames) -> u8
+    requires { (es : List entry.Entry) × StandsFor program.now es × (byte ≤ total rep es) × IsFound program.now rep es stood frames.old held }
+    ensures { (es : List entry.Entry) → StandsFor program.now es → IsFound program.now rep es stood frames.old held → IsFound program.now rep es byte frames.new result }
+{
+    if stood == byte {
+        return held;
+    }
+    stand(program, rep, byte, frames)
 }
 
 impl Cursor {
@@ -65,6 +78,7 @@ impl Cursor {
             rep,
             bytes,
             position: 0,
+            stood: 0,
             held,
             frames,
         }
@@ -97,7 +111,6 @@ impl Cursor {
         requires { byte ≤ total self.old.rep self.old.elements }
         ensures { self.new ≡ record { elements = self.old.elements; rep = self.old.rep; position = byte } }
     {
-        self.held = stand(&self.program, self.rep, byte, &mut self.frames);
         self.position = byte;
     }
 
@@ -112,6 +125,15 @@ impl Cursor {
         ensures limit { IfSome result (λ r. r.rows ≤ limit) }
         ensures passed { IfSome result (λ r. self.new ≡ further self.old (bytes_in r)) }
     {
+        self.held = go_on(
+            &self.program,
+            self.rep,
+            self.stood,
+            self.position,
+            self.held,
+            &mut self.frames,
+        );
+        self.stood = self.position;
         let Some(passed) = pass(
             &self.program,
             self.rep,
@@ -124,6 +146,7 @@ impl Cursor {
         };
         self.held = passed.held;
         self.position += passed.rows.rows * passed.rows.run.bytes;
+        self.stood = self.position;
         Some(passed.rows)
     }
 

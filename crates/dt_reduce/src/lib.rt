@@ -10,6 +10,7 @@ mod pairs;
 pub mod plan;
 pub mod ranks;
 mod rows;
+mod widths;
 mod words;
 
 pub use all::reduce_all;

@@ -10,7 +10,7 @@ ghost use Rattle.dt_reduce.specs.Reduced.{reduced};
 ghost use Rattle.dt_rows.specs.Rows.{bytes_in};
 ghost use Rattle.dt_type.specs.Datatype.{typemap_of};
 
-use crate::rows::{NAMED_MAX, join_rows, whole_rows};
+use crate::rows::{NAMED_MAX, PIECE_MAX, join_rows, whole_rows};
 use crate::words::join_words;
 use dt_cursor::{Cursor, Rows};
 use dt_kinds::{NoMemory, Rep};
@@ -129,6 +129,8 @@ impl Pairs {
         ensures passed { self.new ≡ at_count self.old (length self.old.elements) }
     {
         self.rewind();
+        let mut words = [0; PIECE_MAX];
+        let mut joined = [0; PIECE_MAX];
         'rows: while let Some(rows) = self.next_rows() {
             join_rows(
                 op,
@@ -137,6 +139,8 @@ impl Pairs {
                 source,
                 self.target_origin,
                 target,
+                &mut words,
+                &mut joined,
             );
         }
     }

@@ -36,7 +36,7 @@ pub(crate) fn whole_rows(rows: &Rows) -> Rows
 
 /// Joins the elements of rows as they lie in the source from an origin on with those in the target from another origin on. There is
 /// room for the bytes of both sides.
-fn join_gathered<L: Law, F: Call>(
+pub(crate) fn join_rows<L: Law, F: Call>(
     op: &StoredOp<L, F>,
     rows: &Rows,
     source_origin: i64,
@@ -63,36 +63,4 @@ fn join_gathered<L: Law, F: Call>(
     let count = (rows.rows * rows.run.elements) as usize;
     join_words(op, rows.run.kind, count, words, joined);
     scatter(Rep::Native, rows, target_origin, joined, target);
-}
-
-/// Joins the elements of rows as they lie in the source from an origin on with those in the target from another origin on.
-pub(crate) fn join_rows<L: Law, F: Call>(
-    op: &StoredOp<L, F>,
-    rows: &Rows,
-    source_origin: i64,
-    source: &[u8],
-    target_origin: i64,
-    target: &mut [u8],
-)
-    requires shape { AreRows Native rows.now }
-    requires whole { IsWhole Native rows.now.run }
-    requires few { bytes_in rows.now ≤ 4104 }
-    requires source { IsTrue (are_inside (length source.now) (shift source_origin (elements_of_rows rows.now))) }
-    requires target { IsTrue (are_inside (length target.old) (shift target_origin (elements_of_rows rows.now))) }
-    requires source_near { length source.now < 2 ^ 63 }
-    requires target_near { length target.old < 2 ^ 63 }
-    ensures { target.new ≡ reduced L.join (shift source_origin (elements_of_rows rows.now)) (shift target_origin (elements_of_rows rows.now)) source.now target.old }
-{
-    let mut words = [0; PIECE_MAX];
-    let mut joined = [0; PIECE_MAX];
-    join_gathered(
-        op,
-        rows,
-        source_origin,
-        source,
-        target_origin,
-        target,
-        &mut words,
-        &mut joined,
-    );
 }

@@ -1,7 +1,7 @@
 use Rattle.std.proofs.Common.{◌≡◌, ◌*◌, ◌++◌, drop}
 use Rattle.dt_kinds.specs.Kind.{native_size}
 use Rattle.dt_reduce.specs.Words.{joined_words}
-use Rattle.dt_reduce.proofs.words.join_words.Given as goal
+use Rattle.dt_reduce.proofs.words.join_each.Given as goal
 
 -- the words up to here were joined
 abbrev pub invariant-words : goal.invariant-words

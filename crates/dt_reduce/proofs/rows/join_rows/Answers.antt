@@ -10,7 +10,7 @@ use Rattle.dt_map.specs.Typemap.{shift}
 use Rattle.dt_reduce.specs.Reduced.{reduced}
 use Rattle.dt_reduce.proofs.Gathered.{count_bytes, rows_are_reduced}
 use Rattle.dt_rows.specs.Rows.{bytes_in, elements_of_rows}
-use Rattle.dt_reduce.proofs.rows.join_gathered.Goals as goal
+use Rattle.dt_reduce.proofs.rows.join_rows.Goals as goal
 
 pub overflow_mul-count : goal.overflow_mul-count
 overflow_mul-count g c =

@@ -4,7 +4,7 @@ use Rattle.dt_kinds.specs.Kind.{native_size}
 use Rattle.dt_reduce.specs.Words.{joined_word}
 use Rattle.dt_reduce.proofs.Joining.{words_more}
 use Rattle.dt_rows.proofs.SettingRows.{rest_of}
-use Rattle.dt_reduce.proofs.words.join_words.Goals as goal
+use Rattle.dt_reduce.proofs.words.join_each.Goals as goal
 
 pub words-preserved : goal.words-preserved
 words-preserved g c =
@@ -13,7 +13,7 @@ words-preserved g c =
     let mid = c.words.target in
     let at = c.words.i * c.size-size.result in
     let k = length mid - at in
-    let wide : at ≡ c.words.i * native_size kind = ap (λ s. c.words.i * s) c.size-size.ensures in
+    let wide : at ≡ c.words.i * native_size kind = ap (λ s. c.words.i * s) (c.size-size.ensures ∙ c.requires.size) in
     let less = c.words-test.true in
     let place = mul-le c.words.i (native_size kind) c.args.count (native_size kind) (omega (arith, less)) (omega arith) in
     let room = c.requires.target in
