@@ -1,21 +1,8 @@
 //! `dtt`: scripts of MPI datatypes, answered line by line.
 #![tactic(auto)]
 
-mod call;
-#[cfg(test)]
-mod certificates;
-#[cfg(test)]
-mod limits;
-mod status;
-#[cfg(test)]
-mod tests;
-#[cfg(test)]
-mod totals;
-mod words;
-
-use call::dtt;
 use dt_base::{StdSink, StdSource};
-use status::Status;
+use dt_call::{Status, dtt};
 use std::process::ExitCode;
 use std::rt::Env;
 use std::{env, io};

@@ -4,9 +4,9 @@ use Rattle.std.specs.Io.KnownBytes.{Appends}
 use Rattle.dt_machine.specs.Reply.{Responds}
 use Rattle.dt_machine.specs.State.{State}
 use Rattle.dt_machine.specs.Step.{Step}
-use Rattle.dtt.specs.Progress.{Progress}
-use Rattle.dtt.proofs.RunLemmas.{begun, gone_on, cut_in_reply}
-use Rattle.dtt.proofs.call.run.Goals as goal
+use Rattle.dt_call.specs.Progress.{Progress}
+use Rattle.dt_call.proofs.RunLemmas.{begun, gone_on, cut_in_reply}
+use Rattle.dt_call.proofs.call.run.Goals as goal
 
 pub lines-init : goal.lines-init
 lines-init g c =

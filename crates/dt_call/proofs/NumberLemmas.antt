@@ -5,7 +5,7 @@ use Rattle.std.specs.Str.Parse.{ParsesUnsigned}
 use Rattle.std.proofs.lemmas.Fmt.{parse-decimal}
 use Rattle.std.proofs.lemmas.Slice.Eq.{bytes_eq-Decides}
 use Rattle.dt_verdict.proofs.Naturals.{natural_spelled, no_natural}
-use Rattle.dtt.specs.Words.{number_of}
+use Rattle.dt_call.specs.Words.{number_of}
 
 parsed : {E : Type 0} (word : List ℕ) (r : Result ℕ E) (n : ℕ) → ParsesUnsigned 32 10 word r → n ≤ 4294967295 → word ≡ decimal n → result_ok r ≡ Some n
 parsed word r n parses high is = ap result_ok (parse-decimal 32 n word r (omega (arith, high)) (omega (arith, high)) is parses)

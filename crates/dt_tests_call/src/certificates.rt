@@ -1,5 +1,6 @@
 //! Whole calls of the words that write one answer. The expected texts are worked by hand from the rules.
-use crate::tests::{Outside, answered, ended};
+use crate::runs::{Outside, answered, ended};
+use std::alloc::Global;
 use std::test::Fail;
 
 const EVEN: &[u8] = b"type a = hindexed_block MPI_INT 1 0 8 16\n";
@@ -16,59 +17,85 @@ const BY_CLASSES: &[u8] =
     b"dtcert 3\nweights 1 3 2 1 2 2\nmap 3\nentry MPI_INT 0\nentry MPI_INT 8\nentry MPI_INT 16\nbase 0\n\
 tree vector 3 1 8 leaf MPI_INT\ncost 4\nclass 0 1 1\nclass 0 2 4\nclass 0 3 4\nend\n";
 
-/// Each word answers, whatever the pieces are that the source gives and the sink takes.
+/// Whether words end with a status and a text, and with nothing unread, whatever the pieces are that the source gives and the
+/// sink takes.
+fn is_answered(
+    alloc: Global,
+    words: &str,
+    input: &[u8],
+    status: u8,
+    text: &[u8],
+) -> Result<bool, Fail> {
+    let mut all = true;
+    for most in [1, 7, 65_536] {
+        let outside = Outside {
+            words,
+            input,
+            most,
+            failing_reads: &[],
+            failing_writes: &[],
+        };
+        let (was, wrote, left) = ended(alloc, &outside)?;
+        all &= was == status && wrote.as_slice() == text && left == 0;
+    }
+    Ok(all)
+}
+
 #[test]
-fn one_answer(rt: HostRuntime) -> Result<(), Fail> {
+fn certified(rt: HostRuntime) -> Result<(), Fail> {
     let alloc = rt.alloc();
-    let rows: [(&str, &[u8], u8, &[u8]); 12] = [
-        ("certify a", EVEN, 0, BY_CLASSES),
-        ("certify b", EVEN, 1, b"refused 2 unknown name\n"),
+    let rows: [(&str, &[u8], u8, &[u8]); 5] = [
+        ("a", EVEN, 0, BY_CLASSES),
+        ("b", EVEN, 1, b"refused 2 unknown name\n"),
+        ("MPI_DOUBLE", EVEN, 1, b"refused 4 unsupported kind\n"),
         (
-            "certify MPI_DOUBLE",
-            EVEN,
-            1,
-            b"refused 4 unsupported kind\n",
-        ),
-        (
-            "certify f",
+            "f",
             b"type f = contiguous 1025 MPI_BYTE\n",
             1,
             b"refused 14 too many entries\n",
         ),
         // The first refusal of the script, and no other.
         (
-            "certify MPI_DOUBLE",
+            "MPI_DOUBLE",
             b"show b\ntype a = contiguous -1 MPI_INT\n",
             1,
             b"refused 2 unknown name\n",
         ),
-        ("check", BY_CLASSES, 0, b"least 4\n"),
-        ("check", BY_SEGMENTS, 0, b"least 4\n"),
-        ("check", OLD, 1, b"not shown syntax 1\n"),
-        ("check", b"", 1, b"not shown syntax 1\n"),
-        ("migrate", OLD, 0, BY_CLASSES),
-        ("migrate", BY_SEGMENTS, 0, BY_CLASSES),
-        (
-            "migrate",
-            b"dtcert 1\nweights 1 3 2 1 2\n",
-            1,
-            b"not shown syntax 2\n",
-        ),
     ];
-    for (words, input, status, text) in rows {
-        for most in [1, 7, 65_536] {
-            let outside = Outside {
-                words,
-                input,
-                most,
-                failing_reads: &[],
-                failing_writes: &[],
-            };
-            let (was, wrote, left) = ended(alloc, &outside)?;
-            assert_eq!(rt; was, status, "words {words}");
-            assert_eq!(rt; wrote.as_slice(), text);
-            assert_eq!(rt; left, 0);
-        }
+    for (name, input, status, text) in rows {
+        let mut words = String::from_str(alloc, "certify ")?;
+        words.push_str(name)?;
+        assert!(rt;
+            is_answered(alloc, words.as_str(), input, status, text)?,
+            "certify {name}"
+        );
+    }
+    Ok(())
+}
+
+#[test]
+fn checked(rt: HostRuntime) -> Result<(), Fail> {
+    let rows: [(&[u8], u8, &[u8]); 4] = [
+        (BY_CLASSES, 0, b"least 4\n"),
+        (BY_SEGMENTS, 0, b"least 4\n"),
+        (OLD, 1, b"not shown syntax 1\n"),
+        (b"", 1, b"not shown syntax 1\n"),
+    ];
+    for (input, status, text) in rows {
+        assert!(rt; is_answered(rt.alloc(), "check", input, status, text)?);
+    }
+    Ok(())
+}
+
+#[test]
+fn migrated(rt: HostRuntime) -> Result<(), Fail> {
+    let rows: [(&[u8], u8, &[u8]); 3] = [
+        (OLD, 0, BY_CLASSES),
+        (BY_SEGMENTS, 0, BY_CLASSES),
+        (b"dtcert 1\nweights 1 3 2 1 2\n", 1, b"not shown syntax 2\n"),
+    ];
+    for (input, status, text) in rows {
+        assert!(rt; is_answered(rt.alloc(), "migrate", input, status, text)?);
     }
     Ok(())
 }

@@ -4,9 +4,9 @@ use Rattle.std.specs.Option.{option_map_or}
 use Rattle.std.proofs.lemmas.Slice.Eq.{bytes_eq-Decides}
 use Rattle.dt_script.specs.Name.{is_name, name_of}
 use Rattle.dt_verdict.proofs.Naturals.{natural_means, natural_spelled}
-use Rattle.dtt.specs.declared.words.Asked.{Asked}
-use Rattle.dtt.specs.declared.words.Asked.TheVariants.{Run, Certify, Check, Migrate, Gen}
-use Rattle.dtt.specs.Words.{Ask, AreOther, IsSpelled, alone, asked_by, asked_with, number_of, reads, reads_for, words_for}
+use Rattle.dt_call.specs.declared.words.Asked.{Asked}
+use Rattle.dt_call.specs.declared.words.Asked.TheVariants.{Run, Certify, Check, Migrate, Gen}
+use Rattle.dt_call.specs.Words.{Ask, AreOther, IsSpelled, alone, asked_by, asked_with, number_of, reads, reads_for, words_for}
 
 some_is : {A : Type 0} (x y : A) → Some x ≡ Some y → x ≡ y
 some_is x y e = cc

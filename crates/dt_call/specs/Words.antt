@@ -3,8 +3,8 @@ use Rattle.std.specs.Prelude.{◌≡◌, ℕ, ◌<◌, ◌^◌, Bool, true, fals
 use Rattle.std.specs.Option.{option_map, option_map_or}
 use Rattle.dt_script.specs.Name.{is_name, name_of}
 use Rattle.dt_verdict.specs.Number.{natural_in}
-use Rattle.dtt.specs.declared.words.Asked.{Asked}
-use Rattle.dtt.specs.declared.words.Asked.TheVariants.{Run, Certify, Check, Migrate, Gen}
+use Rattle.dt_call.specs.declared.words.Asked.{Asked}
+use Rattle.dt_call.specs.declared.words.Asked.TheVariants.{Run, Certify, Check, Migrate, Gen}
 
 -- the words of each form
 abbrev pub words_for : Asked → List (List ℕ)

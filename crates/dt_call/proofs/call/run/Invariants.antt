@@ -1,6 +1,6 @@
 use Rattle.std.proofs.Common.{◌≡◌, ◌≤◌, [], length}
-use Rattle.dtt.specs.Progress.{Progress}
-use Rattle.dtt.proofs.call.run.Given as goal
+use Rattle.dt_call.specs.Progress.{Progress}
+use Rattle.dt_call.proofs.call.run.Given as goal
 
 -- the lines up to here were run and answered, and no fault was forgotten
 abbrev pub invariant-lines : goal.invariant-lines

@@ -8,10 +8,10 @@ use Rattle.dt_script.specs.Lines.{script_lines}
 use Rattle.dt_reply.specs.declared.reply.Reply.{Reply}
 use Rattle.dt_machine.specs.State.{State, first_state}
 use Rattle.dt_words.specs.declared.Said.{Said}
-use Rattle.dtt.specs.declared.words.Asked.{Asked}
-use Rattle.dtt.specs.declared.status.Status.{Status}
-use Rattle.dtt.specs.declared.status.Status.TheVariants.{Done, Refused, Usage, ReadFault, WriteFault, NoMemory, TooLong}
-use Rattle.dtt.specs.Result.{Says, IsShortFor}
+use Rattle.dt_call.specs.declared.words.Asked.{Asked}
+use Rattle.dt_call.specs.declared.status.Status.{Status}
+use Rattle.dt_call.specs.declared.status.Status.TheVariants.{Done, Refused, Usage, ReadFault, WriteFault, NoMemory, TooLong}
+use Rattle.dt_call.specs.Result.{Says, IsShortFor}
 
 -- the lines before the rest were run and led to this state, and their replies were written
 pub record Progress (input rest : List ℕ) (state : State) (accepted : Bool) (old new : Option (List ℕ)) : Type 0 where

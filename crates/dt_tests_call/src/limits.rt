@@ -1,5 +1,5 @@
 //! Scripts that go to the limits, and their replies.
-use crate::tests::replies;
+use crate::runs::replies;
 use std::alloc::Global;
 use std::fmt::Write;
 use std::test::Fail;

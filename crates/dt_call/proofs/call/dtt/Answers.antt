@@ -1,9 +1,9 @@
 use Rattle.std.proofs.Common.{[], map, string_bytes, sym, ◌∙◌}
-use Rattle.dtt.specs.declared.status.Status.TheVariants.{ReadFault, NoMemory, TooLong}
-use Rattle.dtt.specs.Result.{Gained, IsResult, IsShort}
-use Rattle.dtt.proofs.CallLemmas.{wrong_words, right_words, read_fault_is, too_long_is, no_memory_is, wrote_no_usage, answered, shortened, told_unread, told_read, nothing_written}
-use Rattle.dtt.proofs.WordLemmas.{others}
-use Rattle.dtt.proofs.call.dtt.Goals as goal
+use Rattle.dt_call.specs.declared.status.Status.TheVariants.{ReadFault, NoMemory, TooLong}
+use Rattle.dt_call.specs.Result.{Gained, IsResult, IsShort}
+use Rattle.dt_call.proofs.CallLemmas.{wrong_words, right_words, read_fault_is, too_long_is, no_memory_is, wrote_no_usage, answered, shortened, told_unread, told_read, nothing_written}
+use Rattle.dt_call.proofs.WordLemmas.{others}
+use Rattle.dt_call.proofs.call.dtt.Goals as goal
 
 pub returns-in_default-clause-usage : goal.returns-in_default-clause-usage
 returns-in_default-clause-usage g c = wrong_words (map string_bytes c.args.words.now) (sym c.read_words.ensures ∙ c.in_default.is)

@@ -2,14 +2,14 @@
 use Rattle.std.proofs.Common.{◌≡◌, ◌↔◌, ℕ, Bool, true, false, if◌then◌else◌, List, [], Option, Some, None, IfSome, refl, sym, ap, subst, ◌∙◌}
 use Rattle.std.proofs.lemmas.List.{append-nil}
 use Rattle.dt_base.specs.Transfer.{ReadsAll}
-use Rattle.dtt.specs.declared.status.Status.{Status}
-use Rattle.dtt.specs.declared.status.Status.TheVariants.{Done, Refused, Usage, ReadFault, WriteFault, NoMemory, TooLong}
-use Rattle.dtt.specs.declared.words.Asked.{Asked}
-use Rattle.dtt.specs.Progress.{Wrote}
-use Rattle.dtt.specs.Result.{Gained, IsAnswer, IsCutShort, IsResult, IsShort, WhereTold, input_of}
-use Rattle.dtt.specs.Words.{AreOther, asked_by, reads}
-use Rattle.dtt.proofs.RunLemmas.{nothing_short}
-use Rattle.dtt.proofs.WordLemmas.{asked_sound, others, reads_so}
+use Rattle.dt_call.specs.declared.status.Status.{Status}
+use Rattle.dt_call.specs.declared.status.Status.TheVariants.{Done, Refused, Usage, ReadFault, WriteFault, NoMemory, TooLong}
+use Rattle.dt_call.specs.declared.words.Asked.{Asked}
+use Rattle.dt_call.specs.Progress.{Wrote}
+use Rattle.dt_call.specs.Result.{Gained, IsAnswer, IsCutShort, IsResult, IsShort, WhereTold, input_of}
+use Rattle.dt_call.specs.Words.{AreOther, asked_by, reads}
+use Rattle.dt_call.proofs.RunLemmas.{nothing_short}
+use Rattle.dt_call.proofs.WordLemmas.{asked_sound, others, reads_so}
 
 -- words of none of the forms, and of one
 pub wrong_words : (words : List (List ℕ)) → asked_by words ≡ None → (Usage ≡ Usage) ↔ AreOther words

@@ -10,11 +10,11 @@ use Rattle.dt_words.specs.Certified.{IsCertified}
 use Rattle.dt_words.specs.Checked.{IsChecked}
 use Rattle.dt_words.specs.Moved.{IsMoved}
 use Rattle.dt_words.specs.Generated.{IsGenerated}
-use Rattle.dtt.specs.declared.words.Asked.{Asked}
-use Rattle.dtt.specs.declared.words.Asked.TheVariants as form
-use Rattle.dtt.specs.declared.status.Status.{Status}
-use Rattle.dtt.specs.declared.status.Status.TheVariants.{Done, Refused, Usage, ReadFault, WriteFault, NoMemory, TooLong}
-use Rattle.dtt.specs.Words.{Ask, reads_for, words_for}
+use Rattle.dt_call.specs.declared.words.Asked.{Asked}
+use Rattle.dt_call.specs.declared.words.Asked.TheVariants as form
+use Rattle.dt_call.specs.declared.status.Status.{Status}
+use Rattle.dt_call.specs.declared.status.Status.TheVariants.{Done, Refused, Usage, ReadFault, WriteFault, NoMemory, TooLong}
+use Rattle.dt_call.specs.Words.{Ask, reads_for, words_for}
 
 -- the call was answered
 abbrev pub IsAnswer : Status → Type 0

@@ -1,10 +1,7 @@
 -- A run goes on by one line, ends, or is cut short.
 use Rattle.std.proofs.Common.{◌≡◌, ℕ, Bool, true, ◌&&◌, List, [], ◌∷◌, ◌++◌, take, drop, Option, Result, Ok, Err, IfOk, refl, ap, sym, subst, ◌∙◌, append_assoc, take-append-drop}
 use Rattle.std.proofs.KnownBytes.{Appends-nil, Appends-trans}
-use Rattle.std.proofs.Math.Bool.{and-true}
-use Rattle.std.proofs.lemmas.Grind.{flat_map-append}
 use Rattle.std.proofs.lemmas.List.{append-nil}
-use Rattle.std.proofs.lemmas.List.Folds.{list_all-append}
 use Rattle.std.specs.Io.KnownBytes.{Appends}
 use Rattle.dt_base.specs.Transfer.{AppendsFront}
 use Rattle.dt_machine.specs.Answers.{Run, Answers, text_of_all, are_accepted}
@@ -16,27 +13,13 @@ use Rattle.dt_machine.specs.Step.{Step}
 use Rattle.dt_kinds.specs.declared.memory.NoMemory as memory
 use Rattle.dt_words.specs.declared.Said.{Said}
 use Rattle.dt_words.specs.Generated.{IsGenerated}
-use Rattle.dtt.specs.declared.status.Status.{Status}
-use Rattle.dtt.specs.declared.status.Status.TheVariants.{Done, Refused, WriteFault, NoMemory}
-use Rattle.dtt.specs.declared.words.Asked.{Asked}
-use Rattle.dtt.specs.declared.words.Asked.TheVariants as form
-use Rattle.dtt.specs.Progress.{Progress, Wrote, WroteSaid}
-use Rattle.dtt.specs.Result.{IsFront, IsFrontOf, IsShortFor, Says}
-
--- one line more
-run_more : (s t u : State) (lines : List (List ℕ)) (replies : List Reply) (line : List ℕ) (reply : Reply)
-    → Run s lines replies t → Step t line reply u → Run s (lines ++ line ∷ []) (replies ++ reply ∷ []) u
-run_more s t u [] [] line reply run step =
-    let P : State → Type 0 = λ x. Step x line reply u in (u, subst P run step, refl)
-run_more s t u [] (r ∷ rs) line reply run step = absurd run
-run_more s t u (l ∷ ls) [] line reply run step = absurd run
-run_more s t u (l ∷ ls) (r ∷ rs) line reply (mid, first, later) step = (mid, first, run_more mid t u ls rs line reply later step)
-
-text_more : (replies : List Reply) (reply : Reply) → text_of_all (replies ++ reply ∷ []) ≡ text_of_all replies ++ text_of reply
-text_more replies reply = flat_map-append text_of replies (reply ∷ []) ∙ ap (λ x. text_of_all replies ++ x) (append-nil (text_of reply))
-
-accepted_more : (replies : List Reply) (reply : Reply) → are_accepted (replies ++ reply ∷ []) ≡ (are_accepted replies && is_accepted reply)
-accepted_more replies reply = list_all-append is_accepted replies (reply ∷ []) ∙ ap (λ b. are_accepted replies && b) (and-true (is_accepted reply))
+use Rattle.dt_words.proofs.Runs.{run_more, text_more, accepted_more}
+use Rattle.dt_call.specs.declared.status.Status.{Status}
+use Rattle.dt_call.specs.declared.status.Status.TheVariants.{Done, Refused, WriteFault, NoMemory}
+use Rattle.dt_call.specs.declared.words.Asked.{Asked}
+use Rattle.dt_call.specs.declared.words.Asked.TheVariants as form
+use Rattle.dt_call.specs.Progress.{Progress, Wrote, WroteSaid}
+use Rattle.dt_call.specs.Result.{IsFront, IsFrontOf, IsShortFor, Says}
 
 pub begun : (input : List ℕ) (known : Option (List ℕ)) → Progress input input first_state true known known
 begun input known = record { lines = []; replies = []; split = refl; run = refl; written = Appends-nil known; told = refl }

@@ -1,10 +1,10 @@
 //! The top call.
 ghost use Rattle.std.specs.Prelude.{◌≡◌, ◌≢◌, ◌+◌, ◌≤◌, ◌↔◌, [], map, IfSome, Some, IsTrue, IsFalse, string_bytes};
 ghost use Rattle.dt_base.specs.Counter.{Rose};
-ghost use Rattle.dtt.specs.declared.words.Asked.TheVariants.{Run as AskedRun};
-ghost use Rattle.dtt.specs.Progress.{Wrote, WroteSaid};
-ghost use Rattle.dtt.specs.Result.{IsAnswer, IsCutShort, IsAnswerOrNoMemory, IsResult, IsShort, WhereTold, IsUnwritten, Gained, TookTooMany, EndsWithinLimit, input_of};
-ghost use Rattle.dtt.specs.Words.{Ask, AreOther, reads, reads_for};
+ghost use Rattle.dt_call.specs.declared.words.Asked.TheVariants.{Run as AskedRun};
+ghost use Rattle.dt_call.specs.Progress.{Wrote, WroteSaid};
+ghost use Rattle.dt_call.specs.Result.{IsAnswer, IsCutShort, IsAnswerOrNoMemory, IsResult, IsShort, WhereTold, IsUnwritten, Gained, TookTooMany, EndsWithinLimit, input_of};
+ghost use Rattle.dt_call.specs.Words.{Ask, AreOther, reads, reads_for};
 
 use crate::status::Status;
 use crate::words::{Asked, read_words};

@@ -1,6 +1,6 @@
 //! Whole runs over sources and sinks in memory. The expected texts are worked by hand from the rules.
-use crate::call::dtt;
 use dt_base::{MemSink, MemSource};
+use dt_call::dtt;
 use std::alloc::Global;
 use std::test::Fail;
 

@@ -1,6 +1,6 @@
 //! The words of the command line, and what they ask for.
 ghost use Rattle.std.specs.Prelude.{◌≡◌, bytes_eq, decimal, map, string_bytes};
-ghost use Rattle.dtt.specs.Words.{alone, asked_by, asked_with, number_of, reads};
+ghost use Rattle.dt_call.specs.Words.{alone, asked_by, asked_with, number_of, reads};
 
 use dt_script::Name;
 use itoa::Buffer;

@@ -1,6 +1,6 @@
 use Rattle.std.proofs.Common.{sym, ◌∙◌}
-use Rattle.dtt.proofs.NumberLemmas.{no_number, told_number, other_number}
-use Rattle.dtt.proofs.words.number_of.Goals as goal
+use Rattle.dt_call.proofs.NumberLemmas.{no_number, told_number, other_number}
+use Rattle.dt_call.proofs.words.number_of.Goals as goal
 
 pub returns-in_err-number : goal.returns-in_err-number
 returns-in_err-number c =

@@ -1,6 +1,6 @@
-use Rattle.dtt.specs.declared.words.Asked.TheVariants.{Certify, Check, Migrate, Gen}
-use Rattle.dtt.proofs.RunLemmas.{wrote_said, counted_is}
-use Rattle.dtt.proofs.call.answer.Goals as goal
+use Rattle.dt_call.specs.declared.words.Asked.TheVariants.{Certify, Check, Migrate, Gen}
+use Rattle.dt_call.proofs.RunLemmas.{wrote_said, counted_is}
+use Rattle.dt_call.proofs.call.answer.Goals as goal
 
 pub returns-in-Certify-clause-wrote : goal.returns-in-Certify-clause-wrote
 returns-in-Certify-clause-wrote g c =

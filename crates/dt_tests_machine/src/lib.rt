@@ -1,0 +1,5 @@
+//! Tests of the machine's calls.
+#![tactic(auto)]
+
+#[cfg(test)]
+mod totals;
