@@ -10,7 +10,7 @@ use Rattle.dt_space.specs.declared.fault.SpaceFault.{SpaceFault}
 use Rattle.dt_space.specs.declared.fault.SpaceFault.TheVariants.{NoSuchType, Basic, NoRoom, Spent, NoMemory}
 use Rattle.dt_space.specs.declared.number.TypeNumber.{TypeNumber}
 use Rattle.dt_space.specs.Space.{Space, kept_at, type_at}
-use Rattle.dt_calls.specs.declared.contents.ContentsLengths.{ContentsLengths}
+use Rattle.dt_calls.specs.declared.listing.ContentsLengths.{ContentsLengths}
 use Rattle.dt_calls.specs.Filling.{filled}
 use Rattle.dt_calls.specs.Olds.{AreNumbered, StandsAs, IsOut}
 

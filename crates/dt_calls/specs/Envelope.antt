@@ -8,7 +8,7 @@ use Rattle.dt_form.specs.declared.envelope.Envelope.{Envelope}
 use Rattle.dt_type.specs.Datatype.{form_of}
 use Rattle.dt_space.specs.declared.number.TypeNumber.{TypeNumber}
 use Rattle.dt_space.specs.Space.{Space, type_at}
-use Rattle.dt_calls.specs.declared.envelope.TypeEnvelope.{TypeEnvelope}
+use Rattle.dt_calls.specs.declared.envelopes.TypeEnvelope.{TypeEnvelope}
 
 -- the numbers of the constructors, in the order in which MPI describes them
 abbrev pub combiner_number : Combiner → ℕ

@@ -40,7 +40,7 @@ pub struct LeastTree {
 
 /// The weights, where each is one.
 fn weights_of(w: &TreeWeights) -> Option<Weights>
-    ensures { MatchOption result (¬ AreLight (weights_by w.now)) (λ weights. weights ≡ weights_by w.now) }
+    ensures { MatchOption result (¬ AreLight (weights_by w.now)) (λ weights. AreLight (weights_by w.now) × (weights ≡ weights_by w.now)) }
 {
     Weights::new(w.leaf, w.vector, w.index, w.place, w.group, w.part)
 }

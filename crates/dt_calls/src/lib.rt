@@ -2,23 +2,23 @@
 //! reductions.
 #![tactic(auto)]
 
-pub mod contents;
 mod copying;
 mod counts;
-pub mod envelope;
+pub mod envelopes;
 mod filling;
 pub mod least;
+pub mod listing;
 mod numbering;
 mod olds;
 pub mod ops;
 mod reducing;
 mod texts;
 
-pub use contents::{ContentsLengths, contents};
 pub use copying::copy;
 pub use counts::{UNDEFINED, received_copies, received_elements};
-pub use envelope::{TypeEnvelope, envelope};
+pub use envelopes::{TypeEnvelope, envelope};
 pub use least::{LeastTree, TreeWeights, least_tree};
+pub use listing::{ContentsLengths, contents};
 pub use ops::{OPS, Op};
 pub use reducing::reduce;
 pub use texts::{export, import};
