@@ -129,3 +129,10 @@ pub out_of : (old s : Space) (ts : List Seen) (ns : List TypeNumber) (count : �
 out_of old s ts ns count Spent all few full = let made = numbered_made old s ts ns all in omega (arith, made, few, full)
 out_of old s ts ns count NoMemory all few full = tt
 out_of old s ts ns count fault all few full = absurd full
+
+-- as many numbers as datatypes
+pub numbered_long : (old s : Space) (ts : List Seen) (ns : List TypeNumber) → AreNumbered old s ts ns → length ns ≡ length ts
+numbered_long old s [] [] all = refl
+numbered_long old s [] (n ∷ ns) all = absurd all
+numbered_long old s (t ∷ ts) [] all = absurd all
+numbered_long old s (t ∷ ts) (n ∷ ns) all = let rest = numbered_long all.0 s ts ns all.2 in omega (arith, rest)
