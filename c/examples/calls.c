@@ -1,5 +1,5 @@
-/* What made a datatype, datatypes as bytes, least trees, counts of received bytes, copies, reductions, an array that is dealt out, and a pack
- * session that goes back. */
+/* What made a datatype, datatypes as bytes, least trees, counts of received bytes, copies, reductions, an array that is dealt out, and a
+ * pack session that goes back. */
 #include "hozkari.h"
 #include <stdio.h>
 #include <string.h>
