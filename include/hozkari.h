@@ -1,7 +1,9 @@
 /* MPI datatypes without MPI: a verified library behind calls that are named and ordered as those of MPI 4.1, chapter 5.
  *
  * Every call answers DT_SUCCESS, which is 0, or the number of a refusal, and a refusal changes nothing: neither the library nor what the
- * caller's pointers point to. A call that is given a null pointer answers DT_ERR_ARG before anything else is looked at.
+ * caller's pointers point to. The one exception is told at the three calls that fill lists or texts: where these are too short, DT_ERR_ROOM
+ * is answered and the lengths that are needed are told. A call that is given a null pointer answers DT_ERR_ARG before anything else is
+ * looked at.
  *
  * A library is one object, which holds the datatypes and the open sessions. All else are numbers: a number that was freed, or never made,
  * is answered by DT_ERR_TYPE or DT_ERR_SESSION, and no number is ever made twice.
@@ -46,6 +48,10 @@ enum {
     DT_ERR_LARGE = 12,      /* a buffer, or the packed bytes, are more than DT_BYTES_MAX */
     DT_ERR_ROOM = 13,       /* there are fewer bytes than are needed, or fewer to come than are given */
     DT_ERR_SPENT = 14,      /* no more numbers can be made */
+    DT_ERR_TRUNCATE = 15,   /* the source has more elements than the target */
+    DT_ERR_MATCH = 16,      /* two elements of one number are of different kinds */
+    DT_ERR_TEXT = 17,       /* the bytes are those of no datatype */
+    DT_ERR_MANY = 18,       /* the datatype has more than 1,024 entries */
     DT_ERR_CLOSED = 20,     /* the library isn't open: dt_lib_new opens it */
     DT_ERR_OPEN = 21        /* the library is open, and dt_lib_new opens only one that isn't */
 };
@@ -134,6 +140,9 @@ int32_t dt_c_type_create_struct(dt_lib *lib, const int32_t *blocklengths, size_t
                                 const dt_type *types, size_t olds, dt_type *newtype);
 int32_t dt_c_type_create_subarray(dt_lib *lib, const int32_t *sizes, size_t ndims, const int32_t *subsizes, size_t subs,
                                   const int32_t *starts, size_t places, bool fortran, dt_type oldtype, dt_type *newtype);
+int32_t dt_c_type_create_darray(dt_lib *lib, int32_t size, int32_t rank, const int32_t *gsizes, size_t ndims, const int32_t *distribs,
+                                size_t dists, const int32_t *dargs, size_t lengths, const int32_t *psizes, size_t procs, bool fortran,
+                                dt_type oldtype, dt_type *newtype);
 int32_t dt_c_type_dup(dt_lib *lib, dt_type oldtype, dt_type *newtype);
 int32_t dt_c_type_commit(dt_lib *lib, dt_type datatype);
 int32_t dt_c_type_free(dt_lib *lib, dt_type datatype);
@@ -164,8 +173,54 @@ int32_t dt_c_session_take(dt_lib *lib, uint64_t session, const uint8_t *buffer, 
                           size_t *taken);
 int32_t dt_c_session_give(dt_lib *lib, uint64_t session, uint8_t *buffer, size_t bufsize, const uint8_t *piece, size_t piecesize,
                           dt_receipt *receipt);
+int32_t dt_c_session_seek(dt_lib *lib, uint64_t session, uint64_t position);
 int32_t dt_c_session_progress(dt_lib *lib, uint64_t session, dt_c_progress *progress);
 int32_t dt_c_session_close(dt_lib *lib, uint64_t session);
+
+/* What made a datatype, and how many integers, addresses and datatypes it was made of. */
+typedef struct {
+    uint64_t combiner;
+    uint64_t integers;
+    uint64_t addresses;
+    uint64_t types;
+} dt_c_envelope;
+
+/* How many integers, addresses and datatypes the contents of a datatype are. */
+typedef struct {
+    uint64_t integers;
+    uint64_t addresses;
+    uint64_t types;
+} dt_lengths;
+
+/* What a leaf, a vector, an index, each of its places, a group, and each of its parts cost in a tree: at most 1,000,000 each. */
+typedef struct {
+    uint32_t leaf;
+    uint32_t vector;
+    uint32_t index;
+    uint32_t place;
+    uint32_t group;
+    uint32_t part;
+} dt_weights;
+
+/* What a least tree costs, where it begins, and how many bytes its text has. */
+typedef struct {
+    uint64_t cost;
+    int64_t base;
+    size_t length;
+} dt_tree;
+
+int32_t dt_c_get_elements(dt_lib *lib, uint64_t bytes, dt_type datatype, bool external32, uint64_t *count);
+int32_t dt_c_get_count(dt_lib *lib, uint64_t bytes, dt_type datatype, bool external32, uint64_t *count);
+int32_t dt_c_type_get_envelope(dt_lib *lib, dt_type datatype, dt_c_envelope *envelope);
+int32_t dt_c_type_get_contents(dt_lib *lib, dt_type datatype, int64_t *integers, size_t max_integers, int64_t *addresses,
+                               size_t max_addresses, dt_type *types, size_t max_types, dt_lengths *lengths);
+int32_t dt_c_type_export(dt_lib *lib, dt_type datatype, uint8_t *outbuf, size_t outsize, size_t *length);
+int32_t dt_c_type_import(dt_lib *lib, const uint8_t *inbuf, size_t insize, dt_type *newtype);
+int32_t dt_c_type_least(dt_lib *lib, dt_type datatype, const dt_weights *weights, uint8_t *outbuf, size_t outsize, dt_tree *tree);
+int32_t dt_c_copy(dt_lib *lib, const uint8_t *inbuf, size_t insize, int64_t inorigin, int32_t incount, dt_type intype, uint8_t *outbuf,
+                  size_t outsize, int64_t outorigin, int32_t outcount, dt_type outtype, uint64_t *elements);
+int32_t dt_c_reduce_local(dt_lib *lib, const uint8_t *inbuf, size_t insize, int64_t inorigin, uint8_t *inoutbuf, size_t inoutsize,
+                          int64_t inoutorigin, int32_t count, dt_type datatype, uint64_t op, uint64_t *elements);
 
 /* No byte of a buffer, which may be told by a null pointer and 0. */
 static inline const uint8_t *dt_c_in(const void *buf) {
@@ -270,6 +325,24 @@ static inline int dt_type_create_subarray(dt_lib *lib, int ndims, const int size
                                      oldtype, newtype);
 }
 
+/* How a dimension of an array is dealt out to processes: in blocks, in blocks in turn, or not at all. */
+enum { DT_DISTRIBUTE_BLOCK = 1, DT_DISTRIBUTE_CYCLIC = 2, DT_DISTRIBUTE_NONE = 3 };
+
+/* In the place of a length of blocks: its default. */
+#define DT_DISTRIBUTE_DFLT_DARG (-1)
+
+/* MPI_Type_create_darray: what the distribution of an array gives to process rank of size; each list has ndims members. DT_ERR_ARG where
+ * ndims is less than 1, a distribution or order is none of its values, or the arguments aren't those of a distribution. */
+static inline int dt_type_create_darray(dt_lib *lib, int size, int rank, int ndims, const int gsizes[], const int distribs[],
+                                        const int dargs[], const int psizes[], dt_order order, dt_type oldtype, dt_type *newtype) {
+    if (!lib || !newtype || ndims < 1 || !gsizes || !distribs || !dargs || !psizes || (order != DT_ORDER_C && order != DT_ORDER_FORTRAN))
+        return DT_ERR_ARG;
+    for (int i = 0; i < ndims; i++)
+        if (distribs[i] < DT_DISTRIBUTE_BLOCK || distribs[i] > DT_DISTRIBUTE_NONE) return DT_ERR_ARG;
+    return dt_c_type_create_darray(lib, size, rank, gsizes, (size_t)ndims, distribs, (size_t)ndims, dargs, (size_t)ndims,
+                                   psizes, (size_t)ndims, order == DT_ORDER_FORTRAN, oldtype, newtype);
+}
+
 /* MPI_Type_create_resized: the old type with this lower bound and extent in place of its own. */
 static inline int dt_type_create_resized(dt_lib *lib, dt_type oldtype, int64_t lb, int64_t extent, dt_type *newtype) {
     return lib && newtype ? dt_c_type_create_resized(lib, oldtype, lb, extent, newtype) : DT_ERR_ARG;
@@ -324,6 +397,110 @@ static inline int dt_type_get_true_extent(dt_lib *lib, dt_type datatype, int64_t
     return answer;
 }
 
+/* ---- what made a datatype (MPI 4.1, section 5.1.13) */
+
+/* The constructors. DT_COMBINER_NAMED is that of the basic types. */
+typedef enum {
+    DT_COMBINER_NAMED = 0,
+    DT_COMBINER_DUP = 1,
+    DT_COMBINER_CONTIGUOUS = 2,
+    DT_COMBINER_VECTOR = 3,
+    DT_COMBINER_HVECTOR = 4,
+    DT_COMBINER_INDEXED = 5,
+    DT_COMBINER_HINDEXED = 6,
+    DT_COMBINER_INDEXED_BLOCK = 7,
+    DT_COMBINER_HINDEXED_BLOCK = 8,
+    DT_COMBINER_STRUCT = 9,
+    DT_COMBINER_SUBARRAY = 10,
+    DT_COMBINER_DARRAY = 11,
+    DT_COMBINER_RESIZED = 12
+} dt_combiner;
+
+/* MPI_Type_get_envelope: the constructor, and how many integers, addresses and datatypes the contents are. DT_ERR_TYPE where the number
+ * stands for nothing, DT_ERR_NO_MEM. */
+static inline int dt_type_get_envelope(dt_lib *lib, dt_type datatype, size_t *num_integers, size_t *num_addresses, size_t *num_datatypes,
+                                       dt_combiner *combiner) {
+    dt_c_envelope envelope = {0, 0, 0, 0};
+    if (!lib || !num_integers || !num_addresses || !num_datatypes || !combiner) return DT_ERR_ARG;
+    int answer = dt_c_type_get_envelope(lib, datatype, &envelope);
+    if (answer == DT_SUCCESS) {
+        *num_integers = (size_t)envelope.integers;
+        *num_addresses = (size_t)envelope.addresses;
+        *num_datatypes = (size_t)envelope.types;
+        *combiner = (dt_combiner)envelope.combiner;
+    }
+    return answer;
+}
+
+/* MPI_Type_get_contents: the arguments of the constructor, in the lists and the order of the standard's tables. An order and a
+ * distribution are the numbers of DT_ORDER_ and DT_DISTRIBUTE_, a length of blocks that is left to its default is DT_DISTRIBUTE_DFLT_DARG.
+ * A basic old type has its own number; any other comes under a new number, which isn't committed and is the caller's to free. The rest of
+ * each list stays. *lengths tells how many there are of each; it may be null.
+ * DT_ERR_TYPE where the number stands for nothing; DT_ERR_BASIC where the datatype is basic, since no constructor made it; DT_ERR_ROOM
+ * where a list is too short, and then *lengths tells what is needed, and nothing else changes; DT_ERR_SPENT; DT_ERR_NO_MEM. Where it
+ * answers one of the last two, numbers that were made are free again. */
+static inline int dt_type_get_contents(dt_lib *lib, dt_type datatype, size_t max_integers, size_t max_addresses, size_t max_datatypes,
+                                       int64_t integers[], int64_t addresses[], dt_type datatypes[], dt_lengths *lengths) {
+    int64_t no_integer, no_address;
+    dt_type no_type;
+    dt_lengths unasked = {0, 0, 0};
+    if (!lib || (!integers && max_integers) || (!addresses && max_addresses) || (!datatypes && max_datatypes)) return DT_ERR_ARG;
+    return dt_c_type_get_contents(lib, datatype, integers ? integers : &no_integer, max_integers, addresses ? addresses : &no_address,
+                                  max_addresses, datatypes ? datatypes : &no_type, max_datatypes, lengths ? lengths : &unasked);
+}
+
+/* ---- datatypes as bytes, and least trees. MPI has no counterpart. */
+
+/* Puts bytes that spell the datatype to the front of outbuf, and their number into *length. Any process reads them as the same datatype.
+ * The rest of outbuf stays. DT_ERR_TYPE where the number stands for nothing; DT_ERR_ROOM where outbuf is too short, and then *length tells
+ * what is needed, and nothing else changes; DT_ERR_NO_MEM. */
+static inline int dt_type_export(dt_lib *lib, dt_type datatype, void *outbuf, size_t outsize, size_t *length) {
+    uint8_t none;
+    if (!lib || (!outbuf && outsize) || !length) return DT_ERR_ARG;
+    return dt_c_type_export(lib, datatype, dt_c_out(outbuf, &none), outsize, length);
+}
+
+/* Makes the datatype that bytes spell. A basic one has its own number, any other comes under a new one, which isn't committed. DT_ERR_TEXT
+ * where the bytes spell none, be they cut, longer, or not of dt_type_export; else DT_ERR_ARG, DT_ERR_OVERFLOW, DT_ERR_DEEP or DT_ERR_HEAVY
+ * where one of the constructors that they spell refuses so; DT_ERR_SPENT; DT_ERR_NO_MEM. */
+static inline int dt_type_import(dt_lib *lib, const void *inbuf, size_t insize, dt_type *newtype) {
+    if (!lib || (!inbuf && insize) || !newtype) return DT_ERR_ARG;
+    return dt_c_type_import(lib, dt_c_in(inbuf), insize, newtype);
+}
+
+/* A tree of vectors, indices and groups that places just the entries of the datatype, in their order, and than which no such tree costs
+ * less: puts its text to the front of outbuf, without a zero behind it, and what it costs, the byte at which it begins and the length of
+ * the text into *tree. A datatype without entries has the text `empty`. A null pointer for weights stands for {1, 3, 2, 1, 2, 2}.
+ * DT_ERR_TYPE where the number stands for nothing; DT_ERR_ARG where a weight is above 1,000,000; DT_ERR_MANY; DT_ERR_ROOM where outbuf is
+ * too short, and then *tree is told, and nothing else changes; DT_ERR_NO_MEM. */
+static inline int dt_type_least(dt_lib *lib, dt_type datatype, const dt_weights *weights, char *outbuf, size_t outsize, dt_tree *tree) {
+    static const dt_weights usual = {1, 3, 2, 1, 2, 2};
+    uint8_t none;
+    if (!lib || (!outbuf && outsize) || !tree) return DT_ERR_ARG;
+    return dt_c_type_least(lib, datatype, weights ? weights : &usual, dt_c_out(outbuf, &none), outsize, tree);
+}
+
+/* ---- counts of received bytes (MPI 4.1, sections 3.2.5 and 5.1.11). Where MPI takes a status, a call here takes how many bytes came, and
+ * how they represent the elements. DT_ERR_TYPE where the number stands for nothing, DT_ERR_ARG where there are more than 2^63 - 1 bytes or
+ * rep is none of the two, DT_ERR_NO_MEM. */
+
+/* Where there is no count, as MPI_UNDEFINED. */
+#define DT_UNDEFINED UINT64_MAX
+
+/* MPI_Get_elements: how many elements the bytes complete, from the first of the datatype on, over as many copies as they reach. An element
+ * that is cut doesn't count, and a datatype without entries has none. */
+static inline int dt_get_elements(dt_lib *lib, uint64_t bytes, dt_type datatype, dt_rep rep, uint64_t *count) {
+    if (!lib || !count || (rep != DT_NATIVE && rep != DT_EXTERNAL32)) return DT_ERR_ARG;
+    return dt_c_get_elements(lib, bytes, datatype, rep == DT_EXTERNAL32, count);
+}
+
+/* MPI_Get_count: how many copies of the datatype the bytes are, and DT_UNDEFINED where they aren't whole copies. Of a datatype without
+ * entries no bytes are 0 copies. */
+static inline int dt_get_count(dt_lib *lib, uint64_t bytes, dt_type datatype, dt_rep rep, uint64_t *count) {
+    if (!lib || !count || (rep != DT_NATIVE && rep != DT_EXTERNAL32)) return DT_ERR_ARG;
+    return dt_c_get_count(lib, bytes, datatype, rep == DT_EXTERNAL32, count);
+}
+
 /* ---- packing and unpacking at once (MPI 4.1, section 5.2)
  * The first that holds is answered: DT_ERR_TYPE; DT_ERR_UNCOMMITTED; DT_ERR_ARG where the count is negative or rep is none of the two;
  * DT_ERR_LARGE where the buffer of the datatype is too large; DT_ERR_OUTSIDE; DT_ERR_LARGE where the packed bytes are too many;
@@ -349,14 +526,56 @@ static inline int dt_unpack(dt_lib *lib, const void *inbuf, size_t insize, size_
                        rep == DT_EXTERNAL32);
 }
 
+/* ---- copies and reductions. The buffers are two, and don't overlap. The first that holds is answered: DT_ERR_TYPE, DT_ERR_UNCOMMITTED
+ * and DT_ERR_ARG where a count is negative, first of the source and then of the target; DT_ERR_LARGE where a buffer is too large;
+ * DT_ERR_OUTSIDE; DT_ERR_OVERLAP where two elements of the target have a common byte; what is said at the call; and DT_ERR_NO_MEM wherever
+ * it comes. */
+
+/* Copies the elements of incount copies of intype in inbuf, in their order, to the places of those of outcount copies of outtype in
+ * outbuf, as MPI_Sendrecv would between a process and itself, with no packed bytes between. No other byte of outbuf changes. *elements
+ * tells how many they are. DT_ERR_TRUNCATE where there are more than in outbuf, then DT_ERR_MATCH where two of one number are of different
+ * kinds. */
+static inline int dt_copy(dt_lib *lib, const void *inbuf, size_t insize, int64_t inorigin, int incount, dt_type intype, void *outbuf,
+                          size_t outsize, int64_t outorigin, int outcount, dt_type outtype, uint64_t *elements) {
+    uint8_t none;
+    if (!lib || (!inbuf && insize) || (!outbuf && outsize) || !elements) return DT_ERR_ARG;
+    return dt_c_copy(lib, dt_c_in(inbuf), insize, inorigin, incount, intype, dt_c_out(outbuf, &none), outsize, outorigin, outcount, outtype,
+                     elements);
+}
+
+/* The operations of a reduction (MPI 4.1, section 6.9.2), on integers: sums and products wrap in the kind's range, bytes are numbers
+ * without a sign, and chars have one. DT_REPLACE takes the element of inbuf, DT_NO_OP leaves that of inoutbuf. */
+typedef enum {
+    DT_SUM = 0,
+    DT_PROD = 1,
+    DT_MIN = 2,
+    DT_MAX = 3,
+    DT_BAND = 4,
+    DT_BOR = 5,
+    DT_BXOR = 6,
+    DT_REPLACE = 7,
+    DT_NO_OP = 8
+} dt_op;
+
+/* MPI_Reduce_local: each element of count copies in inoutbuf becomes what the element of the same number in inbuf and it are joined to,
+ * the one of inbuf first. No other byte of inoutbuf changes. *elements tells how many they are. DT_ERR_ARG, before all else, where op is
+ * none of the above. */
+static inline int dt_reduce_local(dt_lib *lib, const void *inbuf, size_t insize, int64_t inorigin, void *inoutbuf, size_t inoutsize,
+                                  int64_t inoutorigin, int count, dt_type datatype, dt_op op, uint64_t *elements) {
+    uint8_t none;
+    if (!lib || (!inbuf && insize) || (!inoutbuf && inoutsize) || !elements) return DT_ERR_ARG;
+    return dt_c_reduce_local(lib, dt_c_in(inbuf), insize, inorigin, dt_c_out(inoutbuf, &none), inoutsize, inoutorigin, count, datatype,
+                             (uint64_t)op, elements);
+}
+
 /* ---- sessions: an operation whose packed bytes come in pieces of any length. MPI has no counterpart: MPI_Pack and MPI_Unpack go on only
  * at a whole datatype. A session keeps neither the buffer nor the datatype: each call is given the buffer, as it is then. */
 
 /* The number of a session. */
 typedef uint64_t dt_session;
 
-/* Opens a session that packs count copies, the first of which begins at the place origin of a buffer of bufsize bytes. Refused as dt_pack is,
- * but for room; DT_ERR_SPENT where all numbers were used. */
+/* Opens a session that packs count copies, the first of which begins at the place origin of a buffer of bufsize bytes. Refused as dt_pack
+ * is, but for room; DT_ERR_SPENT where all numbers were used. */
 static inline int dt_pack_open(dt_lib *lib, size_t bufsize, int64_t origin, int count, dt_type datatype, dt_rep rep, dt_session *session) {
     if (!lib || !session || (rep != DT_NATIVE && rep != DT_EXTERNAL32)) return DT_ERR_ARG;
     return dt_c_pack_open(lib, bufsize, origin, count, datatype, rep == DT_EXTERNAL32, session);
@@ -370,7 +589,8 @@ static inline int dt_unpack_open(dt_lib *lib, size_t bufsize, int64_t origin, in
 }
 
 /* Puts the next packed bytes of the buffer to the front of outbuf, as many as have room or are still to come, and puts their number into
- * *taken: 0 at the end. DT_ERR_SESSION where the number stands for no session that packs, DT_ERR_ARG where bufsize isn't that of opening. */
+ * *taken: 0 at the end. DT_ERR_SESSION where the number stands for no session that packs, DT_ERR_ARG where bufsize isn't that of opening.
+ */
 static inline int dt_session_take(dt_lib *lib, dt_session session, const void *buffer, size_t bufsize, void *outbuf, size_t outsize,
                                   size_t *taken) {
     uint8_t none;
@@ -378,14 +598,20 @@ static inline int dt_session_take(dt_lib *lib, dt_session session, const void *b
     return dt_c_session_take(lib, session, dt_c_in(buffer), bufsize, dt_c_out(outbuf, &none), outsize, taken);
 }
 
-/* Gives the next packed bytes: the elements of the buffer that they complete are set, no other byte changes, and the bytes of an element that
- * isn't complete are held. DT_ERR_SESSION where the number stands for no session that unpacks, DT_ERR_ARG where bufsize isn't that of
+/* Gives the next packed bytes: the elements of the buffer that they complete are set, no other byte changes, and the bytes of an element
+ * that isn't complete are held. DT_ERR_SESSION where the number stands for no session that unpacks, DT_ERR_ARG where bufsize isn't that of
  * opening, DT_ERR_ROOM where more is given than is still to come. */
 static inline int dt_session_give(dt_lib *lib, dt_session session, void *buffer, size_t bufsize, const void *piece, size_t piecesize,
                                   dt_receipt *receipt) {
     uint8_t none;
     if (!lib || (!buffer && bufsize) || (!piece && piecesize) || !receipt) return DT_ERR_ARG;
     return dt_c_session_give(lib, session, dt_c_out(buffer, &none), bufsize, dt_c_in(piece), piecesize, receipt);
+}
+
+/* Lets a session that packs go on at any of its packed bytes, from 0 on, or at the end. DT_ERR_SESSION where the number stands for no
+ * session that packs, DT_ERR_ARG where it has fewer packed bytes. */
+static inline int dt_session_seek(dt_lib *lib, dt_session session, uint64_t position) {
+    return lib ? dt_c_session_seek(lib, session, position) : DT_ERR_ARG;
 }
 
 /* How many packed bytes a session has in all, and how many of them were passed. DT_ERR_SESSION where the number stands for none. */

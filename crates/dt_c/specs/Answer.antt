@@ -3,7 +3,7 @@ use Rattle.std.specs.Prelude.{◌≡◌, ℕ, ℤ, pos, Bool, true, false, Optio
 use Rattle.dt_kinds.specs.declared.kind.Rep.{Rep}
 use Rattle.dt_kinds.specs.declared.kind.Rep.TheVariants.{Native, External32}
 use Rattle.dt_space.specs.declared.fault.SpaceFault.{SpaceFault}
-use Rattle.dt_space.specs.declared.fault.SpaceFault.TheVariants.{NoSuchType, NoSuchSession, BadArgument, Uncommitted, Basic, Overflow, TooDeep, TooHeavy, Outside, Overlap, TooLarge, NoRoom, Spent, NoMemory}
+use Rattle.dt_space.specs.declared.fault.SpaceFault.TheVariants.{NoSuchType, NoSuchSession, BadArgument, Uncommitted, Basic, Overflow, TooDeep, TooHeavy, Outside, Overlap, TooLarge, NoRoom, Spent, Longer, Differs, BadText, TooMany, NoMemory}
 use Rattle.dt_space.specs.declared.number.Operation.{Operation}
 use Rattle.dt_space.specs.declared.number.TypeNumber.{TypeNumber}
 use Rattle.dt_space.specs.Space.{Space, first_space}
@@ -24,6 +24,10 @@ number_of Overlap = 11
 number_of TooLarge = 12
 number_of NoRoom = 13
 number_of Spent = 14
+number_of Longer = 15
+number_of Differs = 16
+number_of BadText = 17
+number_of TooMany = 18
 
 abbrev pub closed : ℕ
 closed = 20

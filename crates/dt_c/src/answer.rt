@@ -39,6 +39,10 @@ pub(crate) fn number_of(fault: SpaceFault) -> i32
         SpaceFault::TooLarge => 12,
         SpaceFault::NoRoom => 13,
         SpaceFault::Spent => 14,
+        SpaceFault::Longer => 15,
+        SpaceFault::Differs => 16,
+        SpaceFault::BadText => 17,
+        SpaceFault::TooMany => 18,
     }
 }
 

@@ -3,9 +3,9 @@ ghost use Rattle.std.specs.Prelude.{◌≡◌, IfOk};
 ghost use Rattle.dt_form.specs.declared.form.FormOf.TheVariants as FormOf;
 ghost use Rattle.dt_space.specs.New.{IsNewOf};
 ghost use Rattle.dt_space.specs.Structures.{IsNewStruct};
-ghost use Rattle.dt_c.specs.Arrays.{int_blocks, addr_blocks, parts, sub_dims, order_of};
+ghost use Rattle.dt_c.specs.Arrays.{int_blocks, addr_blocks, parts, sub_dims, dist_dims, order_of, dist_of, darg_of};
 
-use dt_form::{AddrBlock, IntBlock, Order, PartOf, SubDim};
+use dt_form::{AddrBlock, Dist, DistDim, IntBlock, Order, PartOf, SubDim};
 use dt_space::{Space, SpaceFault, TypeNumber};
 use std::alloc::{AllocError, Global};
 
@@ -68,6 +68,47 @@ fn sub_dims(
             size: *size,
             sub: *sub,
             start: *start,
+        })
+        .collect(alloc)
+}
+
+/// How a dimension is dealt out, by its number.
+fn dist_of(number: i32) -> Dist
+    ensures { result ≡ dist_of number }
+{
+    match number {
+        1 => Dist::Block,
+        2 => Dist::Cyclic,
+        _ => Dist::Whole,
+    }
+}
+
+/// The length of the blocks in which a dimension is dealt out, where it isn't left to its default.
+fn darg_of(number: i32) -> Option<i32>
+    ensures { result ≡ darg_of number }
+{
+    if number == -1 { None } else { Some(number) }
+}
+
+fn dist_dims(
+    alloc: Global,
+    gsizes: &[i32],
+    dists: &[i32],
+    dargs: &[i32],
+    psizes: &[i32],
+) -> Result<Vec<DistDim>, AllocError>
+    ensures { IfOk result (λ v. v.items ≡ dist_dims gsizes.now dists.now dargs.now psizes.now) }
+{
+    gsizes
+        .iter()
+        .zip(dists.iter())
+        .zip(dargs.iter())
+        .zip(psizes.iter())
+        .map(|(((gsize, dist), darg), psize)| DistDim {
+            gsize: *gsize,
+            dist: dist_of(*dist),
+            darg: darg_of(*darg),
+            psize: *psize,
         })
         .collect(alloc)
 }
@@ -143,4 +184,25 @@ pub(crate) fn subarray(
         return Err(SpaceFault::NoMemory);
     };
     space.subarray(alloc, &dims, order_of(fortran), old)
+}
+
+/// `Space::darray` of four lists.
+pub(crate) fn darray(
+    space: &mut Space,
+    alloc: Global,
+    size: i32,
+    rank: i32,
+    gsizes: &[i32],
+    dists: &[i32],
+    dargs: &[i32],
+    psizes: &[i32],
+    fortran: bool,
+    old: TypeNumber,
+) -> Result<TypeNumber, SpaceFault>
+    ensures { IsNewOf space.old space.new old (λ u. FormOf.Darray size rank (dist_dims gsizes.now dists.now dargs.now psizes.now) (order_of fortran) u) result }
+{
+    let Ok(dims) = dist_dims(alloc, gsizes, dists, dargs, psizes) else {
+        return Err(SpaceFault::NoMemory);
+    };
+    space.darray(alloc, size, rank, &dims, order_of(fortran), old)
 }

@@ -5,10 +5,10 @@ ghost use Rattle.dt_form.specs.declared.form.FormOf.TheVariants as FormOf;
 ghost use Rattle.dt_space.specs.New.{IsNewOf};
 ghost use Rattle.dt_space.specs.Structures.{IsNewStruct};
 ghost use Rattle.dt_c.specs.Answer.{Calls};
-ghost use Rattle.dt_c.specs.Arrays.{int_blocks, addr_blocks, parts, sub_dims, order_of};
+ghost use Rattle.dt_c.specs.Arrays.{int_blocks, addr_blocks, parts, sub_dims, dist_dims, order_of};
 
 use crate::answer::{is_closed, put};
-use crate::arrays::{hindexed, indexed, structure, subarray};
+use crate::arrays::{darray, hindexed, indexed, structure, subarray};
 use crate::library::Library;
 use dt_space::TypeNumber;
 use std::alloc::Global;
@@ -137,6 +137,34 @@ pub extern "C" fn dt_c_type_create_subarray(
         return is_closed();
     };
     let answer = subarray(&mut space, alloc, sizes, subsizes, starts, fortran, oldtype);
+    *lib = Library::of(space);
+    put(newtype, answer)
+}
+
+/// `MPI_Type_create_darray`: as many dimensions as the shortest list has members, in Fortran's order where the flag is set, else in C's.
+#[unsafe(no_mangle)]
+#[tactic(auto, using(crate::proofs::Calling::calls_none))]
+pub extern "C" fn dt_c_type_create_darray(
+    alloc: Global,
+    lib: &mut Library,
+    size: i32,
+    rank: i32,
+    gsizes: &[i32],
+    distribs: &[i32],
+    dargs: &[i32],
+    psizes: &[i32],
+    fortran: bool,
+    oldtype: TypeNumber,
+    newtype: &mut TypeNumber,
+) -> i32
+    ensures { Calls lib.old.held.space lib.new.held.space result (newtype.new ≡ newtype.old) (λ s t r. IsNewOf s t oldtype (λ u. FormOf.Darray size rank (dist_dims gsizes.now distribs.now dargs.now psizes.now) (order_of fortran) u) r × (newtype.new ≡ result_unwrap_or r newtype.old)) }
+{
+    let Some(mut space) = lib.take(alloc) else {
+        return is_closed();
+    };
+    let answer = darray(
+        &mut space, alloc, size, rank, gsizes, distribs, dargs, psizes, fortran, oldtype,
+    );
     *lib = Library::of(space);
     put(newtype, answer)
 }

@@ -1,7 +1,7 @@
 //! Sessions: packed bytes that are taken and given in pieces (MPI 4.1, section 5.2).
 ghost use Rattle.std.specs.Prelude.{◌≡◌, ⊤, length};
 ghost use Rattle.std.specs.Result.{result_unwrap_or};
-ghost use Rattle.dt_space.specs.Sessions.{IsOpenPackAnswer, IsOpenUnpackAnswer, IsCloseAnswer, IsTakeAnswer, IsGiveAnswer, IsProgressAnswer};
+ghost use Rattle.dt_space.specs.Sessions.{IsOpenPackAnswer, IsOpenUnpackAnswer, IsCloseAnswer, IsTakeAnswer, IsGiveAnswer, IsSeekAnswer, IsProgressAnswer};
 ghost use Rattle.dt_c.specs.Answer.{Calls, operation};
 
 use crate::answer::{is_closed, number, put};
@@ -83,6 +83,25 @@ pub extern "C" fn dt_c_session_give(
     let answer = space.give(session, buffer, piece);
     *lib = Library::of(space);
     put(receipt, answer)
+}
+
+/// Lets a session that packs go on at any of its packed bytes, or at the end.
+#[unsafe(no_mangle)]
+#[tactic(auto, using(crate::proofs::Calling::calls_none))]
+pub extern "C" fn dt_c_session_seek(
+    alloc: Global,
+    lib: &mut Library,
+    session: u64,
+    position: u64,
+) -> i32
+    ensures { Calls lib.old.held.space lib.new.held.space result ⊤ (λ s t r. IsSeekAnswer s t session position r) }
+{
+    let Some(mut space) = lib.take(alloc) else {
+        return is_closed();
+    };
+    let answer = space.seek(session, position);
+    *lib = Library::of(space);
+    number(answer)
 }
 
 /// Opens a session that packs an operation in a buffer of so many bytes.

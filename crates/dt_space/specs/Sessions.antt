@@ -1,5 +1,5 @@
 -- Sessions under numbers: packed bytes in pieces.
-use Rattle.std.specs.Prelude.{◌≡◌, ◌≢◌, ℕ, ◌+◌, ◌<◌, min, Option, Result, Ok, Err, MatchOption, MatchResult, List, ◌++◌, drop, length}
+use Rattle.std.specs.Prelude.{◌≡◌, ◌≢◌, ℕ, ◌+◌, ◌<◌, ◌≤◌, min, Option, Result, Ok, Err, MatchOption, MatchResult, List, ◌++◌, drop, length}
 use Rattle.std.specs.BTreeMap.{is_at, insert_entry}
 use Rattle.std.specs.Map.{lookup, set_value, remove_entry}
 use Rattle.std.specs.Ordering.{nat_cmp}
@@ -108,6 +108,22 @@ IsGiveAnswer old new n buffer buffer' piece answer =
     MatchOption (session_at old n)
     ((answer ≡ Err NoSuchSession) × (new ≡ old) × (buffer' ≡ buffer))
     (λ session. IsGiven session buffer buffer' piece answer × (new ≡ with_session old n (given session piece answer)))
+
+-- a session that packs goes to any of its packed bytes, or to the end; refused where there are fewer, and where the session doesn't pack
+abbrev pub IsSought : Session → ℕ → Result (Unit {0}) SpaceFault → Type 0
+IsSought (Pack p) byte answer = MatchResult answer (λ done. byte ≤ pack.total_of p) (λ fault. (fault ≡ BadArgument) × (pack.total_of p < byte))
+IsSought (Unpack u) byte answer = answer ≡ Err NoSuchSession
+
+-- the session afterwards
+abbrev pub sought : Session → ℕ → Result (Unit {0}) SpaceFault → Session
+sought (Pack p) byte (Ok done) = Pack (pack.at_byte p byte)
+sought session byte answer = session
+
+abbrev pub IsSeekAnswer : Space → Space → ℕ → ℕ → Result (Unit {0}) SpaceFault → Type 0
+IsSeekAnswer old new n byte answer =
+    MatchOption (session_at old n)
+    ((answer ≡ Err NoSuchSession) × (new ≡ old))
+    (λ session. IsSought session byte answer × (new ≡ with_session old n (sought session byte answer)))
 
 -- how many packed bytes a session has in all, and how many of them were passed
 abbrev pub progress_of : Session → Progress

@@ -35,6 +35,14 @@ pub enum SpaceFault {
     TooLarge,
     #[error("there are fewer bytes than are needed")]
     NoRoom,
+    #[error("the source has more elements than the target")]
+    Longer,
+    #[error("two elements of one number are of different kinds")]
+    Differs,
+    #[error("the bytes are those of no datatype")]
+    BadText,
+    #[error("the datatype has too many entries")]
+    TooMany,
     #[error("no more numbers can be made")]
     Spent,
     #[error("memory ran out")]

@@ -23,7 +23,7 @@ fn kind_at(slot: usize) -> Result<Kind, SpaceFault>
 impl Space {
     /// Gives a datatype a number that no datatype had before. It isn't committed, but where it is basic. After a refusal nothing is
     /// changed.
-    pub(crate) fn add(&mut self, ty: Datatype) -> Result<TypeNumber, SpaceFault>
+    pub fn add(&mut self, ty: Datatype) -> Result<TypeNumber, SpaceFault>
         ensures { MatchResult result (λ number. Adds self.old self.new number ty) (λ fault. (self.new ≡ self.old) × IsFull self.old fault) }
     {
         let handle = self.types.add(ty, false)?;

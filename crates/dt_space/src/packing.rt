@@ -89,8 +89,9 @@ fn give_all(session: &mut UnpackSession, buffer: &mut [u8], bytes: &[u8])
 }
 
 impl Space {
-    /// The datatype of an operation that is ready.
-    fn ready(&self, alloc: Global, op: Operation) -> Result<Datatype, SpaceFault>
+    /// The datatype of an operation, where it is committed and the count isn't negative; else `NoSuchType`, `Uncommitted` or `BadArgument`,
+    /// the first that holds.
+    pub fn ready(&self, alloc: Global, op: Operation) -> Result<Datatype, SpaceFault>
         ensures { MatchResult result (λ t. IsReady self.now op (λ u. u ≡ t)) (IsUnready self.now op) }
     {
         let kept = self.kept(alloc, op.ty)?;

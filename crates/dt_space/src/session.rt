@@ -1,7 +1,7 @@
 //! Sessions beside the length of their buffer.
 ghost use Rattle.std.specs.Prelude.{◌≡◌, length};
 ghost use Rattle.dt_space.specs.declared.session.Session.TheVariants.{Pack, Unpack};
-ghost use Rattle.dt_space.specs.Sessions.{IsTaken, IsGiven, taken, given, progress_of};
+ghost use Rattle.dt_space.specs.Sessions.{IsTaken, IsGiven, IsSought, taken, given, sought, progress_of};
 
 use crate::fault::SpaceFault;
 use crate::number::{Progress, Receipt};
@@ -80,6 +80,18 @@ fn give_to(unpacking: &mut Unpacking, buf: &mut [u8], piece: &[u8]) -> Result<Re
     }
 }
 
+/// Goes to a packed byte of a session, or to its end.
+fn seek_in(packing: &mut Packing, byte: u64) -> Result<(), SpaceFault>
+    ensures answer { IsSought (Pack packing.old) byte result }
+    ensures session { Pack packing.new ≡ sought (Pack packing.old) byte result }
+{
+    if byte > packing.session.total() {
+        return Err(SpaceFault::BadArgument);
+    }
+    packing.session.seek(byte);
+    Ok(())
+}
+
 impl Session {
     /// Takes the next packed bytes, where the session packs.
     pub(crate) fn take(&mut self, buf: &[u8], out: &mut [u8]) -> Result<usize, SpaceFault>
@@ -100,6 +112,17 @@ impl Session {
         match self {
             Session::Unpack(unpacking) => give_to(unpacking, buf, piece),
             Session::Pack(_) => Err(SpaceFault::NoSuchSession),
+        }
+    }
+
+    /// Goes to a packed byte, or to the end, where the session packs.
+    pub(crate) fn seek(&mut self, byte: u64) -> Result<(), SpaceFault>
+        ensures answer { IsSought self.old byte result }
+        ensures session { self.new ≡ sought self.old byte result }
+    {
+        match self {
+            Session::Pack(packing) => seek_in(packing, byte),
+            Session::Unpack(_) => Err(SpaceFault::NoSuchSession),
         }
     }
 

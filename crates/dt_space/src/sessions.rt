@@ -1,6 +1,6 @@
 //! Sessions under numbers: packed bytes that are taken and given in pieces (MPI 4.1, section 5.2).
 ghost use Rattle.std.specs.Prelude.{◌≡◌, MatchResult};
-ghost use Rattle.dt_space.specs.Sessions.{Begins, IsFullOfSessions, IsOpenPackAnswer, IsOpenUnpackAnswer, IsCloseAnswer, IsTakeAnswer, IsGiveAnswer, IsProgressAnswer};
+ghost use Rattle.dt_space.specs.Sessions.{Begins, IsFullOfSessions, IsOpenPackAnswer, IsOpenUnpackAnswer, IsCloseAnswer, IsTakeAnswer, IsGiveAnswer, IsSeekAnswer, IsProgressAnswer};
 
 use crate::fault::SpaceFault;
 use crate::number::{Operation, Progress, Receipt};
@@ -77,6 +77,18 @@ impl Space {
             return Err(SpaceFault::NoSuchSession);
         };
         session.give(buf, piece)
+    }
+
+    /// Lets a session that packs go on at any of its packed bytes, counted from 0, or at the end. `BadArgument` exactly where it has
+    /// fewer, and `NoSuchSession` where the number stands for no session that packs: elements that were unpacked stay as they are, so
+    /// there is no way back in the other.
+    pub fn seek(&mut self, number: u64, byte: u64) -> Result<(), SpaceFault>
+        ensures { IsSeekAnswer self.old self.new number byte result }
+    {
+        let Some(session) = self.sessions.get_mut(&number) else {
+            return Err(SpaceFault::NoSuchSession);
+        };
+        session.seek(byte)
     }
 
     /// How many packed bytes a session has in all, and how many of them were passed.

@@ -1,0 +1,12 @@
+use Rattle.std.proofs.Common.{rules, refl, subst}
+use Rattle.std.specs.Prelude.{MatchResult}
+use Rattle.dt_calls.specs.Counts.{AreCopies, IsUncounted}
+use Rattle.dt_c.proofs.Calling.{calls_some}
+use Rattle.dt_c.proofs.counts.dt_c_get_count.Goals as goal
+
+pub returns : goal.returns
+returns c =
+    let s = c.deref.result.now in
+    let v = c.received_copies-answer in
+    calls_some _ _ _ _ _ s s v.result (search rules) (search rules) (search rules)
+    (refl, subst (λ rep. MatchResult v.result (AreCopies s c.args.datatype rep c.args.bytes) (IsUncounted s c.args.datatype c.args.bytes)) c.rep_of.ensures v.ensures, c.put.ensures.value)

@@ -1,0 +1,3 @@
+pub mod Between
+pub mod Standing
+pub mod Telling

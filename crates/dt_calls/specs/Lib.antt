@@ -1,0 +1,10 @@
+pub mod Contents
+pub mod Copying
+pub mod Counts
+pub mod Envelope
+pub mod Filling
+pub mod Least
+pub mod Numbering
+pub mod Olds
+pub mod Reducing
+pub mod Texts
