@@ -1,12 +1,12 @@
 //! Counts of received bytes (MPI 4.1, sections 3.2.5 and 5.1.11).
 ghost use Rattle.std.specs.Prelude.{◌≡◌, MatchResult};
 ghost use Rattle.std.specs.Result.{result_unwrap_or};
-ghost use Rattle.dt_calls.specs.Counts.{AreElements, AreCopies, IsUncounted};
+ghost use Rattle.dt_numbered.specs.Counts.{AreElements, AreCopies, IsUncounted};
 ghost use Rattle.dt_c.specs.Answer.{Calls, rep_of};
 
 use crate::answer::{is_closed, put, rep_of};
 use crate::library::Library;
-use dt_calls::{received_copies, received_elements};
+use dt_numbered::{received_copies, received_elements};
 use dt_space::TypeNumber;
 use std::alloc::Global;
 

@@ -2,13 +2,13 @@
 ghost use Rattle.std.specs.Prelude.{◌≡◌, MatchResult};
 ghost use Rattle.std.specs.Result.{result_unwrap_or};
 ghost use Rattle.dt_space.specs.Space.{IsMissing};
-ghost use Rattle.dt_calls.specs.Contents.{IsContentsAnswer, lists_of};
-ghost use Rattle.dt_calls.specs.Envelope.{IsEnvelope};
+ghost use Rattle.dt_numbered.specs.Contents.{IsContentsAnswer, lists_of};
+ghost use Rattle.dt_numbered.specs.Envelope.{IsEnvelope};
 ghost use Rattle.dt_c.specs.Answer.{Calls};
 
 use crate::answer::{is_closed, number, put};
 use crate::library::Library;
-use dt_calls::{ContentsLengths, TypeEnvelope, contents, envelope};
+use dt_numbered::{ContentsLengths, TypeEnvelope, contents, envelope};
 use dt_space::TypeNumber;
 use std::alloc::Global;
 

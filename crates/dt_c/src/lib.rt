@@ -1,4 +1,4 @@
-//! The library for C: each export calls one public call of `dt_space` or `dt_calls` on the space of a `Library`, and answers a
+//! The library for C: each export calls one public call of `dt_space` or `dt_numbered` on the space of a `Library`, and answers a
 //! number.
 #![tactic(auto)]
 

@@ -1,14 +1,14 @@
 //! Elements that are copied from buffer to buffer, and reduced.
 ghost use Rattle.std.specs.Prelude.{◌≡◌, false};
 ghost use Rattle.std.specs.Result.{result_unwrap_or};
-ghost use Rattle.dt_calls.specs.Copying.{IsCopyAnswer};
-ghost use Rattle.dt_calls.specs.Reducing.{IsReduceAnswer};
+ghost use Rattle.dt_numbered.specs.Copying.{IsCopyAnswer};
+ghost use Rattle.dt_numbered.specs.Reducing.{IsReduceAnswer};
 ghost use Rattle.dt_c.specs.Answer.{Calls, operation};
 
 use crate::answer::{is_closed, put};
 use crate::library::Library;
 use crate::packing::operation;
-use dt_calls::{copy, reduce};
+use dt_numbered::{copy, reduce};
 use dt_space::TypeNumber;
 use std::alloc::Global;
 

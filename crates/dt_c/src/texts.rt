@@ -1,13 +1,13 @@
 //! Datatypes as bytes, and least trees as texts.
 ghost use Rattle.std.specs.Prelude.{◌≡◌};
 ghost use Rattle.std.specs.Result.{result_unwrap_or};
-ghost use Rattle.dt_calls.specs.Least.{IsLeastAnswer};
-ghost use Rattle.dt_calls.specs.Texts.{IsExportAnswer, IsImportAnswer};
+ghost use Rattle.dt_numbered.specs.Least.{IsLeastAnswer};
+ghost use Rattle.dt_numbered.specs.Texts.{IsExportAnswer, IsImportAnswer};
 ghost use Rattle.dt_c.specs.Answer.{Calls};
 
 use crate::answer::{is_closed, number, put};
 use crate::library::Library;
-use dt_calls::{LeastTree, TreeWeights, export, import, least_tree};
+use dt_numbered::{LeastTree, TreeWeights, export, import, least_tree};
 use dt_space::TypeNumber;
 use std::alloc::Global;
 

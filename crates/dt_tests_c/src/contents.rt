@@ -1,8 +1,8 @@
 //! Envelopes and contents.
 
 use crate::numbers::{basic, int, short};
-use dt_calls::{ContentsLengths, TypeEnvelope, contents, envelope};
 use dt_form::{IntBlock, PartOf};
+use dt_numbered::{ContentsLengths, TypeEnvelope, contents, envelope};
 use dt_space::{Space, SpaceFault, TypeNumber};
 use std::test::Fail;
 

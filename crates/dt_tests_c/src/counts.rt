@@ -1,9 +1,9 @@
 //! Counts of received bytes.
 
 use crate::numbers::{byte, long, short};
-use dt_calls::{UNDEFINED, received_copies, received_elements};
 use dt_form::PartOf;
 use dt_kinds::Rep;
+use dt_numbered::{UNDEFINED, received_copies, received_elements};
 use dt_space::{Space, SpaceFault, TypeNumber};
 use std::alloc::Global;
 use std::test::Fail;

@@ -1,8 +1,8 @@
 //! Copies and reductions.
 
 use crate::numbers::{copies, int, short};
-use dt_calls::{copy, reduce};
 use dt_kinds::Rep;
+use dt_numbered::{copy, reduce};
 use dt_space::{Operation, Space, SpaceFault};
 use std::test::Fail;
 

@@ -1,7 +1,7 @@
 //! Datatypes as bytes, and least trees as texts.
 
 use crate::numbers::{int, long};
-use dt_calls::{LeastTree, TreeWeights, export, import, least_tree};
+use dt_numbered::{LeastTree, TreeWeights, export, import, least_tree};
 use dt_space::{Space, SpaceFault};
 use std::test::Fail;
 

@@ -1,6 +1,6 @@
 use Rattle.std.proofs.Common.{rules, refl, subst}
 use Rattle.std.specs.Prelude.{MatchResult}
-use Rattle.dt_calls.specs.Counts.{AreElements, IsUncounted}
+use Rattle.dt_numbered.specs.Counts.{AreElements, IsUncounted}
 use Rattle.dt_c.proofs.Calling.{calls_some}
 use Rattle.dt_c.proofs.counts.dt_c_get_elements.Goals as goal
 

@@ -3,7 +3,7 @@ use Rattle.std.specs.Prelude.{◌≡◌, ℤ, false}
 use Rattle.std.proofs.lemmas.Int.{to_z-of_z}
 use mir.Val.{to_z, of_z}
 use Rattle.std.specs.Int.{w32, w64}
-use Rattle.dt_calls.specs.Copying.{IsCopyAnswer}
+use Rattle.dt_numbered.specs.Copying.{IsCopyAnswer}
 use Rattle.dt_c.proofs.Calling.{calls_some}
 use Rattle.dt_c.specs.Answer.{operation}
 use Rattle.dt_c.proofs.moving.dt_c_copy.Goals as goal
