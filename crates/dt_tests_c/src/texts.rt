@@ -19,14 +19,14 @@ fn bytes_of_a_vector(rt: HostRuntime) -> Result<(), Fail> {
     let mut len: usize = 0;
     export(&space, alloc, ty, &mut out, &mut len)?;
     assert_eq!(rt; len, 19);
-    assert_eq!(rt; &out[..19], &VECTOR);
+    assert_eq!(rt; &out[..19], VECTOR.as_slice());
     assert_eq!(rt; out[19], 7);
     let mut few = [7; 18];
     len = 0;
     let short = export(&space, alloc, ty, &mut few, &mut len);
     assert_eq!(rt; short, Err(SpaceFault::NoRoom));
     assert_eq!(rt; len, 19);
-    assert_eq!(rt; few, [7; 18]);
+    assert_eq!(rt; few.as_slice(), [7; 18].as_slice());
     Ok(())
 }
 
@@ -70,7 +70,7 @@ fn the_least_tree_of_a_vector(rt: HostRuntime) -> Result<(), Fail> {
         len: 0,
     };
     least_tree(&space, alloc, ty, &USUAL, &mut out, &mut told)?;
-    assert_eq!(rt; &out, b"vector 3 1 8 leaf MPI_INT.");
+    assert_eq!(rt; out.as_slice(), b"vector 3 1 8 leaf MPI_INT.".as_slice());
     let want = LeastTree {
         cost: 4,
         base: 0,
