@@ -1,3 +1,4 @@
 pub mod Between
+pub mod Reductions
 pub mod Standing
 pub mod Telling

@@ -1,8 +1,10 @@
 -- Numbers that are given and taken away again.
-use Rattle.std.specs.Prelude.{◌≡◌, ◌≢◌, ◌⊎◌, Bool, ℕ, ◌-◌, zero, suc, ◌+◌, ◌<◌, ◌≤◌, true, false, Option, Some, None, List, [], ◌∷◌, ◌++◌, take, get_or, length, Result, Ok, Err}
+use Rattle.std.specs.Prelude.{◌≡◌, ◌≢◌, ◌⊎◌, Bool, cond, ℕ, ◌-◌, ◌+◌, ◌<◌, ◌≤◌, true, false, Some, None, List, [], ◌∷◌, ◌++◌, take, get_or, length, Result, Ok, Err}
 use Rattle.std.proofs.Common.{refl, sym, ap, subst, ◌∙◌, inl, inr, arith}
 use Rattle.std.proofs.lemmas.Bool.{cases_eq}
 use Rattle.std.proofs.lemmas.List.{take_more}
+use Rattle.std.proofs.lemmas.List.Sums.{sum_by-cons, sum_by_push, sum_by-take-le}
+use Rattle.std.specs.List.{sum_by}
 use Rattle.std.specs.Option.{option_map, IsSomeAnd}
 use Rattle.dt_type.specs.Basic.{is_basic}
 use Rattle.dt_type.specs.declared.datatype.Seen.{Seen}
@@ -10,10 +12,10 @@ use Rattle.dt_space.specs.declared.fault.SpaceFault.{SpaceFault}
 use Rattle.dt_space.specs.declared.fault.SpaceFault.TheVariants.{NoSuchType, Basic, Spent, NoMemory}
 use Rattle.dt_space.specs.declared.number.Kept.{Kept}
 use Rattle.dt_space.specs.declared.number.TypeNumber.{TypeNumber}
-use Rattle.dt_space.specs.Live.{IsFreeAnswer, IsFreeRefusal, IsFull, new_kept}
-use Rattle.dt_space.specs.Space.{Space, kept_at, type_at}
-use Rattle.dt_numbered.specs.Numbering.{Numbers}
-use Rattle.dt_numbered.specs.Olds.{AreNumbered, StandsAs, IsOut}
+use Rattle.dt_space.specs.Live.{IsFreeAnswer, IsFreeRefusal, new_kept}
+use Rattle.dt_space.specs.Space.{Space, kept_at}
+use Rattle.dt_numbered.specs.Numbering.{Numbers, IsUnnumbered}
+use Rattle.dt_numbered.specs.Olds.{AreNumbered, StandsAs, IsOut, numbers_for}
 
 no : {P : Type 0} (b : Bool) → b ≡ true → b ≡ false → P
 no b on off = absurd (let e : true ≡ false = sym on ∙ off in cc)
@@ -83,16 +85,21 @@ numbered_less old s (t ∷ ts) (m ∷ ns) n all =
     let less = numbered_less all.0 s ts ns n all.2 in
     record { before = less.before; types = t ∷ less.types; ty = less.ty; numbered = (all.0, all.1, less.numbered); last = less.last }
 
--- as many numbers as datatypes, and no more made than these
-pub numbered_made : (old s : Space) (ts : List Seen) (ns : List TypeNumber) → AreNumbered old s ts ns → s.types.made ≤ old.types.made + length ts
+abbrev needs : Seen → ℕ
+needs t = cond (is_basic t) 0 1
+
+-- as many numbers are made as the datatypes need
+pub numbered_made : (old s : Space) (ts : List Seen) (ns : List TypeNumber) → AreNumbered old s ts ns → s.types.made ≡ old.types.made + numbers_for ts
 numbered_made old s [] [] all = let e : s.types.made ≡ old.types.made = ap (λ (x : Space). x.types.made) all in omega (arith, e)
 numbered_made old s [] (n ∷ ns) all = absurd all
 numbered_made old s (t ∷ ts) [] all = absurd all
-numbered_made old s (t ∷ ts) (n ∷ ns) all = let rest = numbered_made all.0 s ts ns all.2 in let one = made_by old all.0 n t all.1 in omega (arith, rest, one)
+numbered_made old s (t ∷ ts) (n ∷ ns) all =
+    let rest = numbered_made all.0 s ts ns all.2 in let one = made_by old all.0 n t all.1 in omega (arith, rest, one, sum_by-cons needs t ts)
   where
-    made_by : (a b : Space) (m : TypeNumber) (u : Seen) → Numbers a b m u → b.types.made ≤ a.types.made + 1
-    made_by a b m u (inl basic) = let e : b.types.made ≡ a.types.made = ap (λ (x : Space). x.types.made) basic.same in omega (arith, e)
-    made_by a b m u (inr fresh) = let e = fresh.adds.made in omega (arith, e)
+    made_by : (a b : Space) (m : TypeNumber) (u : Seen) → Numbers a b m u → b.types.made ≡ a.types.made + needs u
+    made_by a b m u (inl basic) =
+        let e : b.types.made ≡ a.types.made = ap (λ (x : Space). x.types.made) basic.same in let none : needs u ≡ 0 = ap (λ k. cond k 0 1) basic.basic in omega (arith, e, none)
+    made_by a b m u (inr fresh) = let e = fresh.adds.made in let one : needs u ≡ 1 = ap (λ k. cond k 0 1) fresh.derived in omega (arith, e, one)
 
 -- numbers of which the last ones were taken away again: each stands for what it did before these were given
 pub record IsReached (s cur : Space) (ns : List TypeNumber) (left : ℕ) : Type 0 where
@@ -125,10 +132,15 @@ numbered_more old s new ts ns ms k d n inside all one put =
     (subst (λ us. AreNumbered old new us (take k ns ++ n ∷ [])) (sym (take_more ts k d inside)) (numbered-append old s new (take k ts) (take k ns) (get_or ts k d) n all one))
 
 -- too few numbers are left for all where none is left for one of them
-pub out_of : (old s : Space) (ts : List Seen) (ns : List TypeNumber) (count : ℕ) (fault : SpaceFault) → AreNumbered old s ts ns → length ts ≤ count → IsFull s fault → IsOut old count fault
-out_of old s ts ns count Spent all few full = let made = numbered_made old s ts ns all in omega (arith, made, few, full)
-out_of old s ts ns count NoMemory all few full = tt
-out_of old s ts ns count fault all few full = absurd full
+pub out_of : (old s : Space) (ts : List Seen) (ns : List TypeNumber) (k : ℕ) (d : Seen) (fault : SpaceFault) → k < length ts → AreNumbered old s (take k ts) ns
+    → IsUnnumbered s (get_or ts k d) fault → IsOut old ts fault
+out_of old s ts ns k d Spent inside all full =
+    let made = numbered_made old s (take k ts) ns all in
+    let one : needs (get_or ts k d) ≡ 1 = ap (λ b. cond b 0 1) full.0 in
+    let more : sum_by needs (take (k + 1) ts) ≡ numbers_for (take k ts) + needs (get_or ts k d) = ap (sum_by needs) (take_more ts k d inside) ∙ sum_by_push needs (take k ts) (get_or ts k d) in
+    omega (arith, made, one, more, full.1, sum_by-take-le needs ts (k + 1))
+out_of old s ts ns k d NoMemory inside all full = tt
+out_of old s ts ns k d fault inside all full = absurd full
 
 -- as many numbers as datatypes
 pub numbered_long : (old s : Space) (ts : List Seen) (ns : List TypeNumber) → AreNumbered old s ts ns → length ns ≡ length ts

@@ -1,5 +1,5 @@
 -- Contents of numbered datatypes (MPI 4.1, section 5.1.13).
-use Rattle.std.specs.Prelude.{◌≡◌, ℕ, ◌+◌, ◌≤◌, ℤ, true, false, None, List, length, Result, MatchResult}
+use Rattle.std.specs.Prelude.{◌≡◌, ℕ, ◌≤◌, ℤ, true, false, None, List, length, Result, MatchResult}
 use Rattle.std.specs.Option.{IsSomeAnd}
 use Rattle.dt_form.specs.declared.contents.ContentsOf.{ContentsOf}
 use Rattle.dt_form.specs.Contents.{contents_of}
@@ -57,17 +57,23 @@ pub record AreShort (t : Seen) (lists : Lists) (lengths' : ContentsLengths) : Ty
   pub told : lengths' ≡ lengths_in (contents_in t)
   pub short : ¬ Fit lengths' (length lists.integers) (length lists.addresses) (length lists.types)
 
--- why there are none: the number stands for nothing, or for a basic datatype, or too few numbers are left for the old types
-abbrev pub IsBare : Space → TypeNumber → SpaceFault → Type 0
-IsBare s n NoSuchType = kept_at s n ≡ None
-IsBare s n Basic = IsSomeAnd (type_at s n) (λ t. is_basic t ≡ true)
-IsBare s n Spent = IsSomeAnd (type_at s n) (λ t. IsOut s (length (contents_in t).types) Spent)
-IsBare s n NoMemory = Unit {0}
-IsBare s n fault = ⊥
+-- the lists have room, but too few numbers are left for the old types
+pub record AreUnnumbered (s : Space) (t : Seen) (lists : Lists) : Type 0 where
+  pub derived : is_basic t ≡ false
+  pub fit : Fit (lengths_in (contents_in t)) (length lists.integers) (length lists.addresses) (length lists.types)
+  pub out : IsOut s (contents_in t).types Spent
+
+-- why there are none: the number stands for nothing, or for a basic datatype, or for one whose old types get no numbers
+abbrev pub IsBare : Space → TypeNumber → Lists → SpaceFault → Type 0
+IsBare s n lists NoSuchType = kept_at s n ≡ None
+IsBare s n lists Basic = IsSomeAnd (type_at s n) (λ t. is_basic t ≡ true)
+IsBare s n lists Spent = IsSomeAnd (type_at s n) (λ t. AreUnnumbered s t lists)
+IsBare s n lists NoMemory = Unit {0}
+IsBare s n lists fault = ⊥
 
 abbrev pub IsContentsRefusal : Space → TypeNumber → Lists → ContentsLengths → ContentsLengths → SpaceFault → Type 0
 IsContentsRefusal s n lists lengths lengths' NoRoom = IsSomeAnd (type_at s n) (λ t. AreShort t lists lengths')
-IsContentsRefusal s n lists lengths lengths' fault = (lengths' ≡ lengths) × IsBare s n fault
+IsContentsRefusal s n lists lengths lengths' fault = (lengths' ≡ lengths) × IsBare s n lists fault
 
 -- the answer; a refusal leaves the lists, and what each number stands for
 abbrev pub IsContentsAnswer : Space → Space → TypeNumber → Lists → Lists → ContentsLengths → ContentsLengths → Result (Unit {0}) SpaceFault → Type 0

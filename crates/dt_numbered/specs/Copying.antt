@@ -1,5 +1,5 @@
 -- Elements copied from one buffer to another.
-use Rattle.std.specs.Prelude.{◌≡◌, ℕ, ◌<◌, ◌⊎◌, List, length, Result, MatchResult}
+use Rattle.std.specs.Prelude.{◌≡◌, ℕ, ◌<◌, ◌≤◌, ◌⊎◌, List, length, Result, MatchResult}
 use Rattle.dt_copy.specs.Copied.{copied}
 use Rattle.dt_copy.specs.declared.fault.CopyFault.TheVariants as why
 use Rattle.dt_copy.specs.Plan.{Copy, copy_of, CanCopy, IsRefused}
@@ -24,18 +24,24 @@ abbrev pub copy_between : Operation → Seen → ℕ → Operation → Seen → 
 copy_between from t source_len onto u target_len =
     copy_of (typemap_of t) (count_of from) from.origin source_len (typemap_of u) (count_of onto) onto.origin target_len
 
--- why it can't be made: a buffer is too large, or as its plan is refused
+-- two buffers of so many bytes have at most 16 MiB each
+pub record AreSmall (source_len target_len : ℕ) : Type 0 where
+  pub source : source_len ≤ 16777216
+  pub target : target_len ≤ 16777216
+
+-- why it can't be made: a buffer is too large, or else as its plan is refused
 abbrev pub IsHindered : Copy → SpaceFault → Type 0
 IsHindered c TooLarge = (16777216 < c.source_len) ⊎ (16777216 < c.target_len)
-IsHindered c Outside = IsRefused c why.Outside
-IsHindered c Overlap = IsRefused c why.Overlap
-IsHindered c Longer = IsRefused c why.Longer
-IsHindered c Differs = (at : ℕ) × IsRefused c (why.Differs at)
+IsHindered c Outside = AreSmall c.source_len c.target_len × IsRefused c why.Outside
+IsHindered c Overlap = AreSmall c.source_len c.target_len × IsRefused c why.Overlap
+IsHindered c Longer = AreSmall c.source_len c.target_len × IsRefused c why.Longer
+IsHindered c Differs = AreSmall c.source_len c.target_len × ((at : ℕ) × IsRefused c (why.Differs at))
 IsHindered c NoMemory = Unit {0}
 IsHindered c fault = ⊥
 
 -- so many elements are copied, which are all of the source's
 pub record IsCopied (c : Copy) (source target target' : List ℕ) (elements : ℕ) : Type 0 where
+  pub small : AreSmall c.source_len c.target_len
   pub can : CanCopy c
   pub many : elements ≡ length c.source
   pub put : target' ≡ copied c.source c.target source target

@@ -1,5 +1,7 @@
 -- Numbers for the old types of a datatype, one after another.
-use Rattle.std.specs.Prelude.{◌≡◌, ℕ, ◌+◌, ◌≤◌, List, [], ◌∷◌}
+use Rattle.std.specs.Prelude.{◌≡◌, ℕ, ◌+◌, ◌<◌, cond, List, [], ◌∷◌}
+use Rattle.std.specs.List.{sum_by}
+use Rattle.dt_type.specs.Basic.{is_basic}
 use Rattle.dt_type.specs.declared.datatype.Seen.{Seen}
 use Rattle.dt_space.specs.declared.fault.SpaceFault.{SpaceFault}
 use Rattle.dt_space.specs.declared.fault.SpaceFault.TheVariants.{Spent, NoMemory}
@@ -20,8 +22,12 @@ pub record StandsAs (old new : Space) : Type 0 where
   pub sessions : new.sessions ≡ old.sessions
   pub begun : new.begun ≡ old.begun
 
--- why not all of so many datatypes get a number: not as many are left; want of memory is tied to nothing
-abbrev pub IsOut : Space → ℕ → SpaceFault → Type 0
-IsOut s count Spent = 18446744073709551615 ≤ s.types.made + count
-IsOut s count NoMemory = Unit {0}
-IsOut s count fault = ⊥
+-- how many new numbers datatypes need: one for each that isn't basic
+abbrev pub numbers_for : List Seen → ℕ
+numbers_for = sum_by (λ t. cond (is_basic t) 0 1)
+
+-- why not all of some datatypes get a number: fewer are left than they need; want of memory is tied to nothing
+abbrev pub IsOut : Space → List Seen → SpaceFault → Type 0
+IsOut s ts Spent = 18446744073709551615 < s.types.made + numbers_for ts
+IsOut s ts NoMemory = Unit {0}
+IsOut s ts fault = ⊥

@@ -1,5 +1,5 @@
 -- Elements of one buffer reduced by those of another (MPI 4.1, section 6.9.7).
-use Rattle.std.specs.Prelude.{◌≡◌, ℕ, ◌<◌, ◌⊎◌, ℤ, Option, Some, None, List, [], ◌∷◌, length, slice_get, Result, MatchResult}
+use Rattle.std.specs.Prelude.{◌≡◌, ℕ, ◌<◌, ◌⊎◌, ℤ, None, List, [], ◌∷◌, length, slice_get, Result, MatchResult}
 use Rattle.std.specs.Option.{IsSomeAnd}
 use Rattle.dt_kinds.specs.declared.kind.Kind.{Kind}
 use Rattle.dt_ops.specs.Joins.{sum_of, prod_of, min_of, max_of, and_of, or_of, xor_of, first_of, last_of}
@@ -13,6 +13,7 @@ use Rattle.dt_space.specs.declared.fault.SpaceFault.TheVariants.{BadArgument, Ou
 use Rattle.dt_space.specs.declared.number.Operation.{Operation}
 use Rattle.dt_space.specs.Packing.{IsReady, IsUnready, count_of}
 use Rattle.dt_space.specs.Space.{Space}
+use Rattle.dt_numbered.specs.Copying.{AreSmall}
 use Rattle.dt_numbered.specs.declared.ops.Op.{Op}
 use Rattle.dt_numbered.specs.declared.ops.Op.TheVariants.{Sum, Prod, Min, Max, And, Or, Xor, First, Last}
 
@@ -37,16 +38,17 @@ abbrev pub reduction_for : Operation → Seen → ℤ → ℕ → ℕ → Reduct
 reduction_for op t source_origin source_len target_len =
     reduction_of (typemap_of t) (count_of op) source_origin source_len op.origin target_len
 
--- why it can't be made: a buffer is too large, or as its plan is refused
+-- why it can't be made: a buffer is too large, or else as its plan is refused
 abbrev pub IsHindered : Reduction → SpaceFault → Type 0
 IsHindered r TooLarge = (16777216 < r.source_len) ⊎ (16777216 < r.target_len)
-IsHindered r Outside = IsRefused r why.Outside
-IsHindered r Overlap = IsRefused r why.Overlap
+IsHindered r Outside = AreSmall r.source_len r.target_len × IsRefused r why.Outside
+IsHindered r Overlap = AreSmall r.source_len r.target_len × IsRefused r why.Overlap
 IsHindered r NoMemory = Unit {0}
 IsHindered r fault = ⊥
 
 -- so many elements are reduced, which are all of them
 pub record IsReduced (op : Op) (r : Reduction) (source target target' : List ℕ) (elements : ℕ) : Type 0 where
+  pub small : AreSmall r.source_len r.target_len
   pub can : CanReduce r
   pub many : elements ≡ length r.target
   pub put : target' ≡ reduced (join_of op) r.source r.target source target

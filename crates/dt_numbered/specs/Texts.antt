@@ -8,12 +8,11 @@ use Rattle.dt_wire.specs.Fault.{IsText}
 use Rattle.dt_wire.specs.Import.{IsImported, IsRefused}
 use Rattle.dt_wire.specs.Spelling.{text_of}
 use Rattle.dt_space.specs.declared.fault.SpaceFault.{SpaceFault}
-use Rattle.dt_space.specs.declared.fault.SpaceFault.TheVariants.{NoSuchType, BadArgument, Overflow, TooDeep, TooHeavy, BadText, NoRoom, NoMemory}
+use Rattle.dt_space.specs.declared.fault.SpaceFault.TheVariants.{BadArgument, Overflow, TooDeep, TooHeavy, BadText, NoRoom, NoMemory}
 use Rattle.dt_space.specs.declared.number.TypeNumber.{TypeNumber}
-use Rattle.dt_space.specs.Live.{IsFull}
 use Rattle.dt_space.specs.Space.{Space, type_at, IsMissing}
 use Rattle.dt_numbered.specs.Filling.{filled}
-use Rattle.dt_numbered.specs.Numbering.{Numbers}
+use Rattle.dt_numbered.specs.Numbering.{Numbers, IsUnnumbered}
 
 -- the bytes of the datatype stand at the front of a list that has room for them, and their number is told
 pub record IsExported (t : Seen) (out out' : List ℕ) (len' : ℕ) : Type 0 where
@@ -40,9 +39,9 @@ IsUnread bytes TooHeavy = IsRefused bytes ctor.TooHeavy
 IsUnread bytes NoMemory = Unit {0}
 IsUnread bytes fault = ⊥
 
--- the datatype of the bytes has the number; a refusal changes nothing: there is none, or no number is left
+-- the datatype of the bytes has the number; a refusal changes nothing: there is none, or it gets no number
 abbrev pub IsImportAnswer : Space → Space → List ℕ → Result TypeNumber SpaceFault → Type 0
 IsImportAnswer old new bytes answer =
     MatchResult answer
     (λ n. (t : Seen) × IsImported bytes t × Numbers old new n t)
-    (λ fault. (new ≡ old) × (IsUnread bytes fault ⊎ ((t : Seen) × IsImported bytes t × IsFull old fault)))
+    (λ fault. (new ≡ old) × (IsUnread bytes fault ⊎ ((t : Seen) × IsImported bytes t × IsUnnumbered old t fault)))

@@ -3,7 +3,7 @@ ghost use Rattle.std.specs.Prelude.{◌≡◌, ◌≤◌, MatchResult, length};
 ghost use Rattle.dt_copy.specs.Plan.{copy_of, CanCopy};
 ghost use Rattle.dt_space.specs.Packing.{IsReady, IsUnready};
 ghost use Rattle.dt_type.specs.Datatype.{typemap_of};
-ghost use Rattle.dt_numbered.specs.Copying.{IsHindered, AreReady, AreUnready, IsCopyAnswer, copy_between};
+ghost use Rattle.dt_numbered.specs.Copying.{IsHindered, AreReady, AreSmall, AreUnready, IsCopyAnswer, copy_between};
 
 use dt_copy::{CopyFault, CopyPlan};
 use dt_space::{Operation, Space, SpaceFault};
@@ -25,7 +25,7 @@ fn planned(
     target_origin: i64,
     target_len: usize,
 ) -> Result<CopyPlan, SpaceFault>
-    ensures { MatchResult result (λ plan. (plan ≡ copy_of (typemap_of from.now) source_count source_origin source_len (typemap_of onto.now) target_count target_origin target_len) × CanCopy plan) (IsHindered (copy_of (typemap_of from.now) source_count source_origin source_len (typemap_of onto.now) target_count target_origin target_len)) }
+    ensures { MatchResult result (λ plan. (plan ≡ copy_of (typemap_of from.now) source_count source_origin source_len (typemap_of onto.now) target_count target_origin target_len) × AreSmall source_len target_len × CanCopy plan) (IsHindered (copy_of (typemap_of from.now) source_count source_origin source_len (typemap_of onto.now) target_count target_origin target_len)) }
 {
     if source_len > BUFFER_MAX || target_len > BUFFER_MAX {
         return Err(SpaceFault::TooLarge);
@@ -60,7 +60,7 @@ fn planned_of(
     target: &Datatype,
     target_len: usize,
 ) -> Result<CopyPlan, SpaceFault>
-    ensures { MatchResult result (λ plan. (plan ≡ copy_between from source.now source_len onto target.now target_len) × CanCopy plan) (IsHindered (copy_between from source.now source_len onto target.now target_len)) }
+    ensures { MatchResult result (λ plan. (plan ≡ copy_between from source.now source_len onto target.now target_len) × AreSmall source_len target_len × CanCopy plan) (IsHindered (copy_between from source.now source_len onto target.now target_len)) }
 {
     planned(
         alloc,

@@ -54,7 +54,8 @@ fn listed(alloc: Global, ty: &Datatype) -> Result<Contents, SpaceFault>
 /// `MPI_Type_get_contents`: puts the integers, the addresses and the old types of the constructor that made a datatype to the front of three
 /// lists, and how many there are into `lengths`. A basic old type has its own number, any other a new one. `NoSuchType` exactly where the
 /// number stands for nothing, `Basic` exactly where the datatype is basic; `NoRoom` exactly where a list is too short, and then only `lengths`
-/// is set; `Spent` where not enough numbers are left. After a refusal each number stands for what it did.
+/// is set; `Spent` exactly where they have room
+/// and fewer numbers are left than the old types that aren't basic need. After a refusal each number stands for what it did.
 pub fn contents(
     space: &mut Space,
     alloc: Global,

@@ -1,8 +1,7 @@
 //! Numbers for datatypes that come from elsewhere: a basic one has its own, any other a new one.
 ghost use Rattle.std.specs.Prelude.{◌≡◌, Some, MatchResult, slice_get};
 ghost use Rattle.dt_kinds.specs.Name.{kinds};
-ghost use Rattle.dt_space.specs.Live.{IsFull};
-ghost use Rattle.dt_numbered.specs.Numbering.{Numbers};
+ghost use Rattle.dt_numbered.specs.Numbering.{Numbers, IsUnnumbered};
 
 use dt_form::FormOf;
 use dt_kinds::Kind;
@@ -40,9 +39,10 @@ fn place_of(kind: Kind) -> usize
     }
 }
 
-/// A number for a datatype: that of the basic type where it is one, else a new one. After a refusal nothing is changed.
+/// A number for a datatype: that of the basic type where it is one, else a new one. `Spent` exactly where it isn't
+/// basic and all numbers were used. After a refusal nothing is changed.
 pub(crate) fn number_for(space: &mut Space, ty: Datatype) -> Result<TypeNumber, SpaceFault>
-    ensures { MatchResult result (λ n. Numbers space.old space.new n ty) (λ fault. (space.new ≡ space.old) × IsFull space.old fault) }
+    ensures { MatchResult result (λ n. Numbers space.old space.new n ty) (λ fault. (space.new ≡ space.old) × IsUnnumbered space.old ty fault) }
 {
     match ty.form() {
         FormOf::Named(kind) => Ok(TypeNumber {

@@ -1,9 +1,8 @@
 //! Numbers for the old types of a datatype: all of them, or none.
 ghost use Rattle.std.specs.Prelude.{◌≡◌, ◌≤◌, List, MatchResult, length, take};
-ghost use Rattle.dt_space.specs.Live.{IsFull};
 ghost use Rattle.dt_space.specs.Space.{Space};
 ghost use Rattle.dt_type.specs.declared.datatype.Seen.{Seen};
-ghost use Rattle.dt_numbered.specs.Numbering.{Numbers};
+ghost use Rattle.dt_numbered.specs.Numbering.{Numbers, IsUnnumbered};
 ghost use Rattle.dt_numbered.specs.Olds.{AreNumbered, IsOut, StandsAs};
 
 use crate::numbering::number_for;
@@ -38,7 +37,7 @@ fn take_back(space: &mut Space, numbers: &[TypeNumber], count: usize)
 
 /// A number for one more owner of a datatype.
 fn number_one(space: &mut Space, old: &Datatype) -> Result<TypeNumber, SpaceFault>
-    ensures { MatchResult result (λ n. Numbers space.old space.new n old.now) (λ fault. (space.new ≡ space.old) × IsFull space.old fault) }
+    ensures { MatchResult result (λ n. Numbers space.old space.new n old.now) (λ fault. (space.new ≡ space.old) × IsUnnumbered space.old old.now fault) }
 {
     match old.share() {
         Ok(ty) => number_for(space, ty),
@@ -52,7 +51,7 @@ pub(crate) fn number_all(
     alloc: Global,
     olds: &[Datatype],
 ) -> Result<Vec<TypeNumber>, SpaceFault>
-    ensures { MatchResult result (λ ns. AreNumbered space.old space.new olds.now ns.items) (λ fault. StandsAs space.old space.new × IsOut space.old (length olds.now) fault) }
+    ensures { MatchResult result (λ ns. AreNumbered space.old space.new olds.now ns.items) (λ fault. StandsAs space.old space.new × IsOut space.old olds.now fault) }
 {
     let mut numbers = match vec![in alloc; NONE_YET; olds.len()] {
         Ok(numbers) => numbers,

@@ -4,6 +4,7 @@ ghost use Rattle.dt_ops.specs.Stored.{Joins, TakesWords};
 ghost use Rattle.dt_reduce.specs.Plan.{reduction_of, CanReduce};
 ghost use Rattle.dt_reduce.specs.Reduced.{reduced};
 ghost use Rattle.dt_type.specs.Datatype.{typemap_of};
+ghost use Rattle.dt_numbered.specs.Copying.{AreSmall};
 ghost use Rattle.dt_numbered.specs.Reducing.{ops, join_of, reduction_for, IsHindered, IsReduceAnswer};
 
 use crate::copying::BUFFER_MAX;
@@ -72,7 +73,7 @@ fn planned(
     target_origin: i64,
     target_len: usize,
 ) -> Result<ReducePlan, SpaceFault>
-    ensures { MatchResult result (λ plan. (plan ≡ reduction_of (typemap_of ty.now) count source_origin source_len target_origin target_len) × CanReduce plan) (IsHindered (reduction_of (typemap_of ty.now) count source_origin source_len target_origin target_len)) }
+    ensures { MatchResult result (λ plan. (plan ≡ reduction_of (typemap_of ty.now) count source_origin source_len target_origin target_len) × AreSmall source_len target_len × CanReduce plan) (IsHindered (reduction_of (typemap_of ty.now) count source_origin source_len target_origin target_len)) }
 {
     if source_len > BUFFER_MAX || target_len > BUFFER_MAX {
         return Err(SpaceFault::TooLarge);
@@ -102,7 +103,7 @@ fn planned_of(
     source_len: usize,
     target_len: usize,
 ) -> Result<ReducePlan, SpaceFault>
-    ensures { MatchResult result (λ plan. (plan ≡ reduction_for operands ty.now source_origin source_len target_len) × CanReduce plan) (IsHindered (reduction_for operands ty.now source_origin source_len target_len)) }
+    ensures { MatchResult result (λ plan. (plan ≡ reduction_for operands ty.now source_origin source_len target_len) × AreSmall source_len target_len × CanReduce plan) (IsHindered (reduction_for operands ty.now source_origin source_len target_len)) }
 {
     planned(
         alloc,

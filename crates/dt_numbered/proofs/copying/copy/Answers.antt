@@ -6,7 +6,7 @@ pub returns-in-Ok-planned_of : goal.returns-in-Ok-planned_of
 returns-in-Ok-planned_of c =
     let a = c.args in
     copy_done a.space.now a.from a.onto c.in-Ok.both.0 c.in-Ok.both.1 (length a.source.now) (length a.target.now) c.in-Ok-planned_of.plan a.source.now a.target.now c.run.new.target c.run.result
-    c.in-Ok.ensures c.in-Ok-planned_of.ensures.0 c.in-Ok-planned_of.ensures.1 c.run.ensures.bytes c.run.ensures.elements
+    c.in-Ok.ensures c.in-Ok-planned_of.ensures.0 c.in-Ok-planned_of.ensures.1 c.in-Ok-planned_of.ensures.2 c.run.ensures.bytes c.run.ensures.elements
 
 pub returns : goal.returns
 returns c =

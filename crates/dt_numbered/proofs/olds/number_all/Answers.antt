@@ -1,7 +1,7 @@
-use Rattle.std.proofs.Common.{◌≡◌, ◌≤◌, arith, length, length-set, refl, subst, sym, ap, take, ◌∙◌}
-use Rattle.std.proofs.lemmas.List.{take_more_set, length-take-le}
+use Rattle.std.proofs.Common.{◌≡◌, arith, length, length-set, refl, subst, sym, ap, take, ◌∙◌}
+use Rattle.std.proofs.lemmas.List.{take_more_set}
 use Rattle.std.proofs.Math.Seq.{take-length}
-use Rattle.dt_numbered.specs.Numbering.{Numbers}
+use Rattle.dt_numbered.specs.Numbering.{Numbers, IsUnnumbered}
 use Rattle.dt_numbered.specs.Olds.{AreNumbered}
 use Rattle.dt_numbered.proofs.Standing.{numbered_more, out_of}
 use Rattle.dt_numbered.proofs.olds.number_all.Goals as goal
@@ -27,14 +27,13 @@ returns-in-Err-number_one c =
     let olds = c.args.olds.now in
     let inside = c.olds-test.true in
     let k = c.olds.k in
-    let low : k ≤ length olds = omega (arith, inside) in
-    let few : length (take k olds) ≡ k = length-take-le k olds low in
     let refused = c.in-Err-number_one.ensures in
     let all = c.olds.invariant.1 in (
       c.take_back.ensures c.args.space.now (take k olds)
           (subst (λ s. AreNumbered c.args.space.now s (take k olds) (take k c.deref.result.now)) (sym refused.0)
           (subst (λ ns. AreNumbered c.args.space.now c.olds.space (take k olds) (take k ns)) (sym c.deref.ensures.value) all)),
-      out_of c.args.space.now c.olds.space (take k olds) (take k c.olds.numbers.items) (length olds) c.in-Err-number_one.fault all (omega (arith, few, low)) refused.1,
+      out_of c.args.space.now c.olds.space olds (take k c.olds.numbers.items) k c.index-olds-k.result c.in-Err-number_one.fault inside all
+          (subst (λ t. IsUnnumbered c.olds.space t c.in-Err-number_one.fault) c.index-olds-k.is refused.1),
     )
 
 pub returns : goal.returns
