@@ -39,7 +39,13 @@ fn commands(rt: HostRuntime) -> Result<(), Fail> {
     let alloc = rt.alloc();
     let mut machine = Machine::new(alloc);
     let mut out = Vec::new(alloc);
-    assert!(rt; obeys(alloc, &mut machine, &[(b"type v = contiguous 2 MPI_INT", true)])?);
+    assert!(rt;
+        obeys(
+            alloc,
+            &mut machine,
+            &[(b"type v = contiguous 2 MPI_INT", true)]
+        )?
+    );
     let Ok(Some(command)) = parse_line(alloc, b"map v") else {
         return Err(Fail::from("no command"));
     };
