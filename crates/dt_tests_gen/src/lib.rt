@@ -1,5 +1,0 @@
-//! Tests of generated scripts.
-#![tactic(auto)]
-
-#[cfg(test)]
-mod scripts;
