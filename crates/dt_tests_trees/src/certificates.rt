@@ -1,8 +1,8 @@
-//! Texts of certificates that no transcript holds: cut within a line, with another byte, or with a last line that isn't ended.
+//! Texts of certificates that no transcript holds: cut within a line, or with a last line that isn't ended.
 
 use dt_kinds::NoMemory;
 use dt_verdict::{NotShown, check, migrate};
-use std::alloc::{AllocError, Global};
+use std::alloc::Global;
 use std::test::Fail;
 
 const THREE: &[u8] = b"dtcert 3
@@ -38,26 +38,6 @@ fn fronts(rt: HostRuntime) {
         assert_eq!(rt; shown, Err(NotShown::Syntax { line }), "{len} bytes");
     }
     assert_eq!(rt; check(rt.alloc(), THREE), Ok(4));
-}
-
-/// The text with one byte changed.
-fn changed(alloc: Global, at: usize) -> Result<Vec<u8>, AllocError> {
-    let mut text = THREE.to_vec(alloc)?;
-    if let Some(byte) = text.get_mut(at) {
-        *byte ^= 1;
-    }
-    Ok(text)
-}
-
-/// With any one byte changed, no other cost is shown.
-#[test]
-fn changed_bytes(rt: HostRuntime) -> Result<(), Fail> {
-    for at in 0..THREE.len() {
-        let text = changed(rt.alloc(), at)?;
-        let shown = check(rt.alloc(), &text);
-        assert!(rt; shown == Ok(4) || shown.is_err(), "at {at}");
-    }
-    Ok(())
 }
 
 /// What the lines of version 1 become, with other bytes behind its front of a length.

@@ -31,47 +31,38 @@ fn segment(classes: &Classes, i: u32, j: u32) -> Option<(u32, u32, u64)> {
     Some((classes.class(i, j), first, classes.natural(i, j)))
 }
 
-/// Classes are numbered by length and first start, with 6 starts for each length.
-#[test]
-fn segments_of_pairs(rt: HostRuntime) -> Result<(), Fail> {
-    let classes = classes_at(rt.alloc(), &PAIRS)?.ok_or("the places are in range")?;
-    let rows = [
-        (5, 6, (6, 0, 4)),
-        (4, 6, (12, 0, 8)),
-        (1, 3, (13, 1, 100)),
-        (3, 5, (13, 1, 100)),
-        (2, 6, (24, 0, 108)),
-    ];
-    for (i, j, want) in rows {
-        assert_eq!(rt; segment(&classes, i, j), Some(want), "{i} {j}");
-    }
-    Ok(())
-}
-
-/// Whether the blocks of a length in a segment are alike, even and stacked.
-fn blocks(classes: &Classes, i: u32, j: u32, m: u32) -> Option<[bool; 3]> {
-    if i >= j || j > classes.len() || m == 0 || !(j - i).is_multiple_of(m) {
+/// Whether the blocks of a length in a front are alike, even and stacked.
+fn blocks(classes: &Classes, to: u32, m: u32) -> Option<[bool; 3]> {
+    if to == 0 || to > classes.len() || m == 0 || !to.is_multiple_of(m) {
         return None;
     }
     Some([
-        classes.alike_blocks(i, j, m),
-        classes.even_blocks(i, j, m),
-        classes.stacked_blocks(i, j, m),
+        classes.alike_blocks(0, to, m),
+        classes.even_blocks(0, to, m),
+        classes.stacked_blocks(0, to, m),
     ])
 }
 
+/// Classes are numbered by length and first start, with 6 starts for each length.
 #[test]
-fn blocks_of_pairs(rt: HostRuntime) -> Result<(), Fail> {
+fn pairs_of_ints(rt: HostRuntime) -> Result<(), Fail> {
     let classes = classes_at(rt.alloc(), &PAIRS)?.ok_or("the places are in range")?;
+    for (i, j, class, first, natural) in [
+        (4, 6, 12, 0, 8),
+        (3, 5, 13, 1, 100),
+        (2, 6, 24, 0, 108),
+    ] {
+        let found = segment(&classes, i, j);
+        assert_eq!(rt; found, Some((class, first, natural)), "{i} {j}");
+    }
     let rows = [
-        (0, 6, 2, [true, true, false]),
-        (0, 2, 1, [true, true, true]),
-        (0, 3, 1, [true, false, false]),
-        (0, 6, 3, [false, false, false]),
-        (0, 6, 6, [true, true, true]),
+        (6, 2, [true, true, false]),
+        (2, 1, [true, true, true]),
+        (3, 1, [true, false, false]),
+        (6, 3, [false, false, false]),
     ];
-    for (i, j, m, want) in rows {
-        assert_eq!(rt; blocks(&classes, i, j, m), Some(want), "{i} {j} {m}");
+    for (to, m, want) in rows {
+        assert_eq!(rt; blocks(&classes, to, m), Some(want), "{to} {m}");
     }
     Ok(())
 }

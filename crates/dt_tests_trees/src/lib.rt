@@ -7,8 +7,6 @@ mod certificates;
 #[cfg(test)]
 mod classes;
 #[cfg(test)]
-mod least;
-#[cfg(test)]
 mod nodes;
 #[cfg(test)]
 mod placed;

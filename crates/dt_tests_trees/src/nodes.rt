@@ -1,7 +1,7 @@
 //! The rule of trees, at each of its limits and one past it, where no text is read.
 
 use dt_kinds::Kind;
-use dt_tree::{GroupPart, Node, ShapeFault, Tree};
+use dt_tree::{GroupPart, Node, Tree};
 use sqlite_items::{Boxed, Items};
 use std::alloc::{AllocError, Global};
 use std::test::Fail;
@@ -79,25 +79,24 @@ fn limits(rt: HostRuntime) -> Result<(), Fail> {
     Ok(())
 }
 
-/// A fault hands the node back, which can be mended.
+/// 127 parts of 1,024 nodes, places and parts, and one of a few more than so many places, beside the group itself.
+pub(crate) fn wide(alloc: Global, last: u32) -> Result<Node, AllocError> {
+    let mut parts = Items::new(alloc);
+    for k in 0..128 {
+        let number = if k < 127 { 1021 } else { last };
+        let node = index(alloc, number, 1, 0)?;
+        let (block, disp) = (1, 0);
+        parts.push(GroupPart { block, disp, node })?;
+    }
+    Ok(Node::Group { parts })
+}
+
+/// 131,072 nodes, places and parts, and one more.
 #[test]
-fn handed_back(rt: HostRuntime) -> Result<(), Fail> {
-    let node = vector(rt.alloc(), 1025, 1, 3)?;
-    let Some(
-        ShapeFault {
-            root: Node::Vector { stride, child, .. },
-        },
-    ) = Tree::of_node(node).err()
-    else {
-        assert!(rt; false, "1,025 turns are too many");
-        return Ok(());
-    };
-    let mended = Tree::of_node(Node::Vector {
-        count: 1024,
-        block: 1,
-        stride,
-        child,
-    });
-    assert_eq!(rt; mended.ok().map(|tree| tree.elements()), Some(1024));
+fn size(rt: HostRuntime) -> Result<(), Fail> {
+    for (last, want) in [(1020, true), (1021, false)] {
+        let node = wide(rt.alloc(), last)?;
+        assert_eq!(rt; Tree::of_node(node).is_ok(), want);
+    }
     Ok(())
 }

@@ -56,17 +56,6 @@ fn elements(rt: HostRuntime) -> Result<(), Fail> {
     Ok(())
 }
 
-/// As many elements as are wanted are listed from a base on, and one more are too many.
-#[test]
-fn too_many(rt: HostRuntime) -> Result<(), Fail> {
-    let tree = tree(rt.alloc(), "vector 1024 4 4 leaf MPI_BYTE")?;
-    let places = tree.flatten(rt.alloc(), -7, 4096)?;
-    assert_eq!(rt; places.last().map(|place| place.disp), Some(4088));
-    let few = tree.flatten(rt.alloc(), -7, 4095).err();
-    assert_eq!(rt; few, Some(FlattenFault::TooMany));
-    Ok(())
-}
-
 /// 128 copies of 1,024 longs to the seventh power: more than are counted, and each is told.
 #[test]
 fn more_than_are_counted(rt: HostRuntime) -> Result<(), Fail> {

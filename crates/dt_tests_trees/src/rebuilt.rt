@@ -1,9 +1,9 @@
-//! Datatypes of trees that aren't least, and those that no datatype is made of.
+//! Trees that no datatype is made of.
 
+use crate::nodes::wide;
 use crate::placed::tree;
-use crate::spellings::{deep, wide};
-use dt_kinds::Kind;
-use dt_map::{Entry, Marks};
+use crate::spellings::deep;
+use dt_map::Marks;
 use dt_rebuild::to_type;
 use dt_spelling::read_text;
 use dt_tree::Tree;
@@ -16,35 +16,12 @@ fn fault(alloc: Global, base: i64, tree: &Tree, marks: Option<Marks>) -> Option<
     to_type(alloc, base, Some(tree), marks).err()
 }
 
-/// A block of two indices of a block of two, from 4 on.
-#[test]
-fn blocks_of_one_turn(rt: HostRuntime) -> Result<(), Fail> {
-    let tree = tree(rt.alloc(), "vector 1 2 0 index 1 2 0 leaf MPI_INT")?;
-    let marks = Some(Marks { lb: -3, ub: 5 });
-    let map = to_type(rt.alloc(), 4, Some(&tree), marks)?.flatten(rt.alloc(), 4)?;
-    let kind = Kind::Int;
-    let entries = [4, 8, 12, 16].map(|disp| Entry { kind, disp });
-    assert_eq!(rt; map.entries(), entries.as_slice());
-    assert_eq!(rt; map.marks(), marks);
-    Ok(())
-}
-
-/// A vector that ends at 2^60, the same further on, and one that ends behind it within a struct that would begin further before it.
+/// A vector that ends at 2^60, and the same further on.
 #[test]
 fn too_far(rt: HostRuntime) -> Result<(), Fail> {
-    let over = Some(CtorFault::Overflow);
-    let rows = [
-        ("vector 2 1 1152921504606846972 leaf MPI_INT", 0, None),
-        ("vector 2 1 1152921504606846972 leaf MPI_INT", 4, over),
-        (
-            "struct 2 1 0 leaf MPI_INT 1 -1152921504606846976 vector 2 1 1152921504606846976 leaf MPI_INT",
-            0,
-            over,
-        ),
-    ];
-    for (text, base, want) in rows {
-        let tree = tree(rt.alloc(), text)?;
-        assert_eq!(rt; fault(rt.alloc(), base, &tree, None), want, "{text}");
+    let tree = tree(rt.alloc(), "vector 2 1 1152921504606846972 leaf MPI_INT")?;
+    for (base, want) in [(0, None), (4, Some(CtorFault::Overflow))] {
+        assert_eq!(rt; fault(rt.alloc(), base, &tree, None), want);
     }
     Ok(())
 }
@@ -62,11 +39,11 @@ fn too_deep(rt: HostRuntime) -> Result<(), Fail> {
     Ok(())
 }
 
-/// 127 parts that each list 1,021 places.
+/// 128 parts that list more than a thousand places each.
 #[test]
 fn too_heavy(rt: HostRuntime) -> Result<(), Fail> {
-    let text = wide(rt.alloc(), "127")?;
-    let tree = read_text(rt.alloc(), text.as_slice())?;
+    let node = wide(rt.alloc(), 1020)?;
+    let tree = Tree::of_node(node).ok().ok_or("the tree is not too great")?;
     assert_eq!(rt;
         fault(rt.alloc(), 0, &tree, None),
         Some(CtorFault::TooHeavy)

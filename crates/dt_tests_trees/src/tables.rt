@@ -1,4 +1,4 @@
-//! Tables whose members stand in no order: the first segment at which they fail. The greatest valid one.
+//! Tables whose members stand in no order: the first segment at which they fail. The greatest valid one, and what the greatest typemaps cost.
 ghost use Rattle.std.specs.Prelude.{IfOk};
 ghost use Rattle.std.specs.List.{All};
 ghost use Rattle.dt_check.specs.Members.{IsMember};
@@ -6,14 +6,12 @@ ghost use Rattle.dt_check.specs.Members.{IsMember};
 use crate::classes::{PAIRS, classes_at};
 use dt_alike::Classes;
 use dt_check::{Segment, first_failing, first_failing_of_classes};
-use dt_kinds::NoMemory;
-use dt_normal::{Low, least_table};
+use dt_kinds::{Kind, NoMemory};
+use dt_map::{Entry, FlatMap};
+use dt_normal::{Low, least_table, normalise};
 use dt_tree::Weights;
 use std::alloc::Global;
 use std::test::Fail;
-
-/// Three ints, 8 bytes apart.
-const EVEN: [i64; 3] = [0, 8, 16];
 
 /// A table's list, of the members that name a segment.
 fn table(
@@ -40,8 +38,8 @@ fn table(
 fn failing(
     alloc: Global,
     classes: &Classes,
-    members: &[(u32, u32, u64)],
     by_classes: bool,
+    members: &[(u32, u32, u64)],
 ) -> Result<Option<Segment>, NoMemory> {
     let lows = table(alloc, classes, members)?;
     if by_classes {
@@ -51,57 +49,65 @@ fn failing(
     }
 }
 
-/// Longer segments before shorter ones, and later ones before earlier ones; of two members that name a segment the first one counts.
+/// Three ints, 8 bytes apart. Members may stand in any order, and of two of one segment the first one counts; as values of classes those
+/// of other segments than the first ones are passed over.
 #[test]
 fn members_in_no_order(rt: HostRuntime) -> Result<(), Fail> {
-    let classes = classes_at(rt.alloc(), &EVEN)?.ok_or("the places are in range")?;
-    let rows: [(&[(u32, u32, u64)], Option<(u32, u32)>); 5] = [
-        (&[(0, 3, 4), (0, 2, 4), (2, 3, 1), (0, 1, 1)], None),
-        (&[(0, 3, 9), (2, 3, 9)], Some((2, 3))),
-        (&[(2, 3, 9), (1, 2, 9)], Some((1, 2))),
-        (&[(0, 1, 1), (0, 1, 2)], None),
-        (&[(0, 1, 2), (0, 1, 1)], Some((0, 1))),
+    let classes = classes_at(rt.alloc(), &[0, 8, 16])?.ok_or("the places are in range")?;
+    let rows: [(bool, &[(u32, u32, u64)], Option<(u32, u32)>); 8] = [
+        (false, &[(0, 3, 4), (0, 2, 4), (2, 3, 1), (0, 1, 1)], None),
+        (false, &[(0, 3, 9), (2, 3, 9)], Some((2, 3))),
+        (false, &[(2, 3, 9), (1, 2, 9)], Some((1, 2))),
+        (false, &[(0, 1, 1), (0, 1, 2)], None),
+        (false, &[(0, 1, 2), (0, 1, 1)], Some((0, 1))),
+        (true, &[(0, 3, 4), (0, 2, 4), (0, 1, 1)], None),
+        (true, &[(0, 3, 4), (0, 2, 4)], Some((0, 2))),
+        (true, &[(2, 3, 9), (1, 3, 9)], None),
     ];
-    for (members, want) in rows {
+    for (by_classes, members, want) in rows {
         let want = want.map(|(from, to)| Segment { from, to });
-        assert_eq!(rt; failing(rt.alloc(), &classes, members, false)?, want);
+        assert_eq!(rt; failing(rt.alloc(), &classes, by_classes, members)?, want);
     }
     Ok(())
 }
 
-/// One value for each class says as much as all six; where the single ints have none, the first pair fails; and values of other segments
-/// than the first ones are passed over.
-#[test]
-fn values_of_classes(rt: HostRuntime) -> Result<(), Fail> {
-    let classes = classes_at(rt.alloc(), &EVEN)?.ok_or("the places are in range")?;
-    let rows: [(&[(u32, u32, u64)], Option<(u32, u32)>); 3] = [
-        (&[(0, 1, 1), (0, 2, 4), (0, 3, 4)], None),
-        (&[(0, 2, 4), (0, 3, 4)], Some((0, 2))),
-        (&[(2, 3, 9), (1, 3, 9)], None),
-    ];
-    for (members, want) in rows {
-        let want = want.map(|(from, to)| Segment { from, to });
-        assert_eq!(rt; failing(rt.alloc(), &classes, members, true)?, want);
-    }
-    Ok(())
-}
-
-/// Each of the 21 segments of three pairs, the shorter first, then by their starts: single ints, then pairs of them, and at last the whole.
+/// Each of the 21 segments of three pairs, the shorter first, then by their starts. Three uneven ints are an index.
 #[test]
 fn the_greatest_table(rt: HostRuntime) -> Result<(), Fail> {
     let classes = classes_at(rt.alloc(), &PAIRS)?.ok_or("the places are in range")?;
     let lows = least_table(rt.alloc(), &classes, &Weights::default())?;
     assert_eq!(rt; lows.len(), 21);
-    // three uneven ints are an index, and two pairs a vector of blocks of two
-    let rows = [
-        (0, (0, 1, 1)),
-        (6, (0, 2, 4)),
-        (12, (1, 4, 6)),
-        (15, (0, 4, 4)),
-        (20, (0, 6, 4)),
-    ];
-    for (k, (from, to, low)) in rows {
+    for (k, from, to, low) in [(0, 0, 1, 1), (12, 1, 4, 6), (20, 0, 6, 4)] {
         assert_eq!(rt; lows.get(k).copied(), Some(Low { from, to, low }), "at {k}");
     }
+    Ok(())
+}
+
+/// What a least tree of 1,024 ints and elements of another kind in turn costs, each a longer step on than the one before.
+fn uneven(alloc: Global, other: Kind) -> Result<u64, Fail> {
+    let mut entries = Vec::new(alloc);
+    let mut disp: i64 = 0;
+    let mut step: i64 = 8;
+    for i in 0..1024 {
+        let kind = if i % 2 == 0 { Kind::Int } else { other };
+        entries.push(Entry { kind, disp })?;
+        disp = disp.saturating_add(step);
+        step = step.saturating_add(8);
+    }
+    let map = FlatMap::new(entries, None)?;
+    Ok(normalise(alloc, &map, &Weights::default())?.cost)
+}
+
+/// An index: its node, the places and a leaf.
+#[test]
+fn the_greatest_index(rt: HostRuntime) -> Result<(), Fail> {
+    assert_eq!(rt; uneven(rt.alloc(), Kind::Int)?, 1027);
+    Ok(())
+}
+
+/// Nothing but a struct of leaves: the struct, and for each leaf its part and itself.
+#[test]
+fn the_greatest_struct(rt: HostRuntime) -> Result<(), Fail> {
+    assert_eq!(rt; uneven(rt.alloc(), Kind::Byte)?, 3074);
     Ok(())
 }
