@@ -1,6 +1,6 @@
 //! Counts of received bytes.
 
-use crate::numbers::{byte, long, short};
+use crate::numbers::{byte, long, short, stale};
 use dt_form::PartOf;
 use dt_kinds::Rep;
 use dt_numbered::{UNDEFINED, received_copies, received_elements};
@@ -10,69 +10,64 @@ use std::test::Fail;
 
 /// A long and a short: 10 bytes in memory, 6 in external32.
 fn mixed(alloc: Global, space: &mut Space) -> Result<TypeNumber, SpaceFault> {
-    let parts = [
-        PartOf {
-            len: 1,
-            disp: 0,
-            old: long(),
-        },
-        PartOf {
-            len: 1,
-            disp: 8,
-            old: short(),
-        },
+    let long = PartOf {
+        len: 1,
+        disp: 0,
+        old: long(),
+    };
+    let short = PartOf {
+        len: 1,
+        disp: 8,
+        old: short(),
+    };
+    space.structure(alloc, &[long, short])
+}
+
+/// How many elements and how many copies of a datatype so many bytes are.
+fn counted(
+    alloc: Global,
+    space: &Space,
+    ty: TypeNumber,
+    rep: Rep,
+    bytes: u64,
+) -> [Result<u64, SpaceFault>; 2] {
+    [
+        received_elements(space, alloc, ty, rep, bytes),
+        received_copies(space, alloc, ty, rep, bytes),
+    ]
+}
+
+#[test]
+fn of_a_struct(rt: HostRuntime) -> Result<(), Fail> {
+    let mut space = Space::new(rt.alloc());
+    let ty = mixed(rt.alloc(), &mut space)?;
+    let rows = [
+        (Rep::Native, 0, 0, 0),
+        (Rep::Native, 9, 1, UNDEFINED),
+        (Rep::Native, 10, 2, 1),
+        (Rep::Native, 18, 3, UNDEFINED),
+        (Rep::External32, 3, 0, UNDEFINED),
+        (Rep::External32, 12, 4, 2),
     ];
-    space.structure(alloc, &parts)
-}
-
-#[test]
-fn elements_that_are_complete(rt: HostRuntime) -> Result<(), Fail> {
-    let alloc = rt.alloc();
-    let mut space = Space::new(alloc);
-    let ty = mixed(alloc, &mut space)?;
-    for (bytes, want) in [(0, 0), (7, 0), (8, 1), (9, 1), (10, 2), (18, 3), (20, 4)] {
-        let got = received_elements(&space, alloc, ty, Rep::Native, bytes)?;
-        assert_eq!(rt; got, want, "of {bytes}");
-    }
-    for (bytes, want) in [(3, 0), (4, 1), (6, 2), (10, 3), (12, 4)] {
-        let got = received_elements(&space, alloc, ty, Rep::External32, bytes)?;
-        assert_eq!(rt; got, want, "of {bytes} in external32");
+    for (rep, bytes, elements, copies) in rows {
+        let found = counted(rt.alloc(), &space, ty, rep, bytes);
+        assert_eq!(rt; found, [Ok(elements), Ok(copies)], "of {bytes}");
     }
     Ok(())
 }
 
+/// As many bytes as may be, and one more; and a number that stands for nothing.
 #[test]
-fn copies_that_are_whole(rt: HostRuntime) -> Result<(), Fail> {
-    let alloc = rt.alloc();
-    let mut space = Space::new(alloc);
-    let ty = mixed(alloc, &mut space)?;
-    for (bytes, want) in [(0, 0), (10, 1), (20, 2), (18, UNDEFINED), (1, UNDEFINED)] {
-        let got = received_copies(&space, alloc, ty, Rep::Native, bytes)?;
-        assert_eq!(rt; got, want, "of {bytes}");
-    }
-    assert_eq!(rt; received_copies(&space, alloc, ty, Rep::External32, 12)?, 2);
-    let none = space.contiguous(alloc, 0, byte())?;
-    assert_eq!(rt; received_copies(&space, alloc, none, Rep::Native, 0)?, 0);
-    assert_eq!(rt;
-        received_copies(&space, alloc, none, Rep::Native, 1)?,
-        UNDEFINED
-    );
-    Ok(())
-}
-
-#[test]
-fn refusals(rt: HostRuntime) -> Result<(), Fail> {
-    let alloc = rt.alloc();
-    let space = Space::new(alloc);
+fn refused_counts(rt: HostRuntime) {
+    let space = Space::new(rt.alloc());
     let most: u64 = 9_223_372_036_854_775_807;
-    assert_eq!(rt;
-        received_elements(&space, alloc, byte(), Rep::Native, most)?,
-        most
-    );
-    let more = received_elements(&space, alloc, byte(), Rep::Native, most + 1);
-    assert_eq!(rt; more, Err(SpaceFault::BadArgument));
-    let stale = TypeNumber { slot: 0, serial: 0 };
-    let nothing = received_copies(&space, alloc, stale, Rep::Native, 1);
-    assert_eq!(rt; nothing, Err(SpaceFault::NoSuchType));
-    Ok(())
+    let rows = [
+        (byte(), most, Ok(most)),
+        (byte(), most + 1, Err(SpaceFault::BadArgument)),
+        (stale(), 1, Err(SpaceFault::NoSuchType)),
+    ];
+    for (ty, bytes, want) in rows {
+        let found = counted(rt.alloc(), &space, ty, Rep::Native, bytes);
+        assert_eq!(rt; found, [want, want], "of {bytes}");
+    }
 }

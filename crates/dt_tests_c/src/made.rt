@@ -1,77 +1,116 @@
 //! Datatypes that each constructor makes, by their sizes and extents.
 
-use crate::numbers::{int, short};
-use dt_form::{AddrBlock, Dist, DistDim, Order, SubDim};
-use dt_space::{Extent, Space, TypeNumber};
+use crate::numbers::{byte, int, short, size};
+use dt_form::{AddrBlock, Dist, DistDim, IntBlock, Order, PartOf, SubDim};
+use dt_space::{Extent, Space, SpaceFault, TypeNumber};
 use std::alloc::Global;
 use std::test::Fail;
 
-/// The size, the lower bound and the extent of a datatype.
-fn measured(alloc: Global, space: &Space, ty: TypeNumber) -> Result<(u64, i64, i64), Fail> {
-    let size = space.size(alloc, ty)?;
-    let Extent { lb, extent } = space.extent(alloc, ty)?;
-    Ok((size, lb, extent))
+/// A datatype of one old type and numbers, an int's.
+fn of_numbers(
+    alloc: Global,
+    space: &mut Space,
+    constructor: usize,
+) -> Result<TypeNumber, SpaceFault> {
+    match constructor {
+        0 => space.contiguous(alloc, 3, int()),
+        1 => space.vector(alloc, 2, 1, 2, int()),
+        2 => space.hvector(alloc, 2, 1, -8, int()),
+        3 => space.resized(alloc, -4, 20, int()),
+        _ => space.dup(alloc, int()),
+    }
 }
 
-#[test]
-fn of_numbers(rt: HostRuntime) -> Result<(), Fail> {
-    let alloc = rt.alloc();
-    let mut space = Space::new(alloc);
-    let ty = space.contiguous(alloc, 3, int())?;
-    assert_eq!(rt; measured(alloc, &space, ty)?, (12, 0, 12));
-    let ty = space.hvector(alloc, 2, 1, -8, int())?;
-    assert_eq!(rt; measured(alloc, &space, ty)?, (8, -8, 12));
-    let ty = space.resized(alloc, -4, 20, ty)?;
-    assert_eq!(rt; measured(alloc, &space, ty)?, (8, -4, 20));
-    let entries = space.true_extent(alloc, ty)?;
-    assert_eq!(rt; entries.lb, -8);
-    assert_eq!(rt; entries.extent, 12);
-    let ty = space.dup(alloc, ty)?;
-    assert_eq!(rt; measured(alloc, &space, ty)?, (8, -4, 20));
-    Ok(())
+/// A datatype of one old type and a list, a short's.
+fn of_a_list(
+    alloc: Global,
+    space: &mut Space,
+    constructor: usize,
+) -> Result<TypeNumber, SpaceFault> {
+    let blocks = [IntBlock { len: 1, disp: 1 }, IntBlock { len: 2, disp: 4 }];
+    let in_bytes = [AddrBlock { len: 1, disp: 2 }, AddrBlock { len: 2, disp: 8 }];
+    match constructor {
+        0 => space.indexed(alloc, &blocks, short()),
+        1 => space.hindexed(alloc, &in_bytes, short()),
+        2 => space.indexed_block(alloc, 2, &[3, 0], short()),
+        _ => space.hindexed_block(alloc, 1, &[88, 70, 57], short()),
+    }
 }
 
-#[test]
-fn of_lists(rt: HostRuntime) -> Result<(), Fail> {
-    let alloc = rt.alloc();
-    let mut space = Space::new(alloc);
-    let blocks = [AddrBlock { len: 1, disp: 2 }, AddrBlock { len: 2, disp: 8 }];
-    let ty = space.hindexed(alloc, &blocks, short())?;
-    assert_eq!(rt; measured(alloc, &space, ty)?, (6, 2, 10));
-    let ty = space.indexed_block(alloc, 2, &[3, 0], short())?;
-    assert_eq!(rt; measured(alloc, &space, ty)?, (8, 0, 10));
-    let ty = space.hindexed_block(alloc, 1, &[88, 70, 57], int())?;
-    assert_eq!(rt; measured(alloc, &space, ty)?, (12, 57, 36));
-    Ok(())
+/// Two bytes, and an int before them.
+fn structure(alloc: Global, space: &mut Space) -> Result<TypeNumber, SpaceFault> {
+    let bytes = PartOf {
+        len: 2,
+        disp: 8,
+        old: byte(),
+    };
+    let int = PartOf {
+        len: 1,
+        disp: -4,
+        old: int(),
+    };
+    space.structure(alloc, &[bytes, int])
 }
 
-/// Two of four rows; and of six ints, dealt out in blocks of four to two processes, those of the second.
-#[test]
-fn of_arrays(rt: HostRuntime) -> Result<(), Fail> {
-    let alloc = rt.alloc();
-    let mut space = Space::new(alloc);
-    let dims = [
-        SubDim {
-            size: 4,
-            sub: 2,
-            start: 1,
-        },
-        SubDim {
-            size: 6,
-            sub: 6,
-            start: 0,
-        },
-    ];
-    let ty = space.subarray(alloc, &dims, Order::C, int())?;
-    assert_eq!(rt; measured(alloc, &space, ty)?, (48, 0, 96));
-    let dims = [DistDim {
+/// Two of four ints, from the second one on.
+fn subarray(alloc: Global, space: &mut Space) -> Result<TypeNumber, SpaceFault> {
+    let dim = SubDim {
+        size: 4,
+        sub: 2,
+        start: 1,
+    };
+    space.subarray(alloc, &[dim], Order::C, int())
+}
+
+/// Of six ints, dealt out in blocks of four to two processes, those of the second.
+fn darray(alloc: Global, space: &mut Space) -> Result<TypeNumber, SpaceFault> {
+    let dim = DistDim {
         gsize: 6,
         dist: Dist::Block,
         darg: Some(4),
         psize: 2,
-    }];
-    let ty = space.darray(alloc, 2, 1, &dims, Order::C, int())?;
-    assert_eq!(rt; measured(alloc, &space, ty)?, (8, 0, 24));
-    assert_eq!(rt; space.true_extent(alloc, ty)?.lb, 16);
+    };
+    space.darray(alloc, 2, 1, &[dim], Order::C, int())
+}
+
+fn made(alloc: Global, space: &mut Space, constructor: usize) -> Result<TypeNumber, SpaceFault> {
+    match constructor {
+        0..5 => of_numbers(alloc, space, constructor),
+        5..9 => of_a_list(alloc, space, constructor - 5),
+        9 => structure(alloc, space),
+        10 => subarray(alloc, space),
+        _ => darray(alloc, space),
+    }
+}
+
+/// The lower bound and the extent, with marks and without.
+fn extents(alloc: Global, space: &Space, ty: TypeNumber) -> Result<[i64; 4], SpaceFault> {
+    let Extent { lb, extent } = space.extent(alloc, ty)?;
+    let entries = space.true_extent(alloc, ty)?;
+    Ok([lb, extent, entries.lb, entries.extent])
+}
+
+#[test]
+fn by_each_constructor(rt: HostRuntime) -> Result<(), Fail> {
+    let rows: [(u64, [i64; 4]); 12] = [
+        (12, [0, 12, 0, 12]),
+        (8, [0, 12, 0, 12]),
+        (8, [-8, 12, -8, 12]),
+        (4, [-4, 20, 0, 4]),
+        (4, [0, 4, 0, 4]),
+        (6, [2, 10, 2, 10]),
+        (6, [2, 10, 2, 10]),
+        (8, [0, 10, 0, 10]),
+        (6, [57, 34, 57, 33]),
+        (6, [-4, 16, -4, 14]),
+        (8, [0, 16, 4, 8]),
+        (8, [0, 24, 16, 8]),
+    ];
+    let mut space = Space::new(rt.alloc());
+    for (constructor, (bytes, want)) in rows.iter().enumerate() {
+        let ty = made(rt.alloc(), &mut space, constructor)?;
+        assert_eq!(rt; size(rt.alloc(), &space, ty)?, *bytes, "{constructor}");
+        assert_eq!(rt; extents(rt.alloc(), &space, ty)?, *want, "{constructor}");
+    }
     Ok(())
 }

@@ -1,6 +1,6 @@
 //! Datatypes as bytes, and least trees as texts.
 
-use crate::numbers::{int, long};
+use crate::numbers::{int, long, size, stale, vector};
 use dt_numbered::{LeastTree, TreeWeights, export, import, least_tree};
 use dt_space::{Space, SpaceFault, TypeNumber};
 use std::alloc::Global;
@@ -11,39 +11,49 @@ const VECTOR: [u8; 19] = [
     100, 116, 119, 49, 3, 0, 0, 0, 2, 0, 0, 0, 1, 0, 0, 0, 2, 0, 6,
 ];
 
-/// Exports that vector into a slice that holds sevens: the answer, the number of bytes that is told, and the slice.
-fn exported(alloc: Global, out: &mut [u8]) -> Result<(Result<(), SpaceFault>, usize), SpaceFault> {
-    let mut space = Space::new(alloc);
-    let ty = space.vector(alloc, 2, 1, 2, int())?;
+/// Exports a datatype into sevens, of which so many have room: the answer, the number of bytes that is told, and the sevens.
+fn exported(
+    alloc: Global,
+    space: &Space,
+    ty: TypeNumber,
+    room: usize,
+) -> (Result<(), SpaceFault>, usize, [u8; 20]) {
+    let mut out = [7; 20];
     let mut len: usize = 0;
-    let answer = export(&space, alloc, ty, out, &mut len);
-    Ok((answer, len))
+    let answer = export(space, alloc, ty, &mut out[..room.min(20)], &mut len);
+    (answer, len, out)
 }
 
 #[test]
 fn bytes_of_a_vector(rt: HostRuntime) -> Result<(), Fail> {
-    let mut out = [7; 20];
-    assert_eq!(rt; exported(rt.alloc(), &mut out)?, (Ok(()), 19));
+    let mut space = Space::new(rt.alloc());
+    let ty = vector(rt.alloc(), &mut space, 2, int())?;
+    let (answer, len, out) = exported(rt.alloc(), &space, ty, 20);
+    assert_eq!(rt; (answer, len), (Ok(()), 19));
     assert_eq!(rt; &out[..19], VECTOR.as_slice());
     assert_eq!(rt; out[19], 7);
-    let mut few = [7; 18];
-    assert_eq!(rt;
-        exported(rt.alloc(), &mut few)?,
-        (Err(SpaceFault::NoRoom), 19)
-    );
-    assert_eq!(rt; few.as_slice(), [7; 18].as_slice());
+    for (ty, want, len) in [
+        (ty, SpaceFault::NoRoom, 19),
+        (stale(), SpaceFault::NoSuchType, 0),
+    ] {
+        let found = exported(rt.alloc(), &space, ty, 18);
+        assert_eq!(rt; found, (Err(want), len, [7; 20]));
+    }
     Ok(())
 }
 
+fn imported(alloc: Global, space: &mut Space, bytes: &[u8]) -> Result<TypeNumber, SpaceFault> {
+    import(space, alloc, bytes)
+}
+
+/// The vector, and a long, whose number is that of the basic type.
 #[test]
-fn a_vector_of_bytes(rt: HostRuntime) -> Result<(), Fail> {
-    let alloc = rt.alloc();
-    let mut space = Space::new(alloc);
-    let ty = import(&mut space, alloc, &VECTOR)?;
-    let extent = space.extent(alloc, ty)?;
-    assert_eq!(rt; (extent.lb, extent.extent), (0, 12));
-    assert_eq!(rt; space.size(alloc, ty)?, 8);
-    assert_eq!(rt; import(&mut space, alloc, b"dtw1\x00\x08")?, long());
+fn datatypes_of_bytes(rt: HostRuntime) -> Result<(), Fail> {
+    let mut space = Space::new(rt.alloc());
+    let ty = imported(rt.alloc(), &mut space, &VECTOR)?;
+    assert_eq!(rt; size(rt.alloc(), &space, ty)?, 8);
+    let ty = imported(rt.alloc(), &mut space, b"dtw1\x00\x08")?;
+    assert_eq!(rt; ty, long());
     Ok(())
 }
 
@@ -58,68 +68,76 @@ fn refused_bytes(rt: HostRuntime) -> Result<(), Fail> {
         (&negative, SpaceFault::BadArgument),
     ];
     for (bytes, want) in rows {
-        assert_eq!(rt; import(&mut space, rt.alloc(), bytes), Err(want));
+        assert_eq!(rt; imported(rt.alloc(), &mut space, bytes), Err(want));
     }
     Ok(())
 }
 
-const USUAL: TreeWeights = TreeWeights {
-    leaf: 1,
-    vector: 3,
-    index: 2,
-    place: 1,
-    group: 2,
-    part: 2,
-};
-
-const NOTHING: LeastTree = LeastTree {
-    cost: 0,
-    base: 9,
-    len: 0,
-};
-
-/// The number of a vector of three ints, every other one.
-fn vector(alloc: Global, space: &mut Space) -> Result<TypeNumber, SpaceFault> {
-    space.vector(alloc, 3, 1, 2, int())
+/// A least tree of a datatype, each place of an index at a weight, into dots of which so many have room: the answer, what is told, and
+/// the dots.
+fn least(
+    alloc: Global,
+    space: &Space,
+    ty: TypeNumber,
+    place: u32,
+    room: usize,
+) -> (Result<(), SpaceFault>, LeastTree, [u8; 26]) {
+    let weights = TreeWeights {
+        leaf: 1,
+        vector: 3,
+        index: 2,
+        place,
+        group: 2,
+        part: 2,
+    };
+    let mut told = LeastTree {
+        cost: 0,
+        base: 9,
+        len: 0,
+    };
+    let mut out = [46; 26];
+    let answer = least_tree(
+        space,
+        alloc,
+        ty,
+        &weights,
+        &mut out[..room.min(26)],
+        &mut told,
+    );
+    (answer, told, out)
 }
 
 #[test]
 fn the_least_tree_of_a_vector(rt: HostRuntime) -> Result<(), Fail> {
-    let alloc = rt.alloc();
-    let mut space = Space::new(alloc);
-    let ty = vector(alloc, &mut space)?;
+    let mut space = Space::new(rt.alloc());
+    let ty = vector(rt.alloc(), &mut space, 3, int())?;
     let want = LeastTree {
         cost: 4,
         base: 0,
         len: 25,
     };
-    let mut told = NOTHING;
-    let mut out = [46; 26];
-    assert_eq!(rt;
-        least_tree(&space, alloc, ty, &USUAL, &mut out, &mut told),
-        Ok(())
-    );
+    let (answer, told, out) = least(rt.alloc(), &space, ty, 1, 26);
+    assert_eq!(rt; (answer, told), (Ok(()), want));
     assert_eq!(rt; out.as_slice(), b"vector 3 1 8 leaf MPI_INT.".as_slice());
-    assert_eq!(rt; told, want);
-    told = NOTHING;
-    let short = least_tree(&space, alloc, ty, &USUAL, &mut out[..24], &mut told);
-    assert_eq!(rt; short, Err(SpaceFault::NoRoom));
-    assert_eq!(rt; told, want);
+    let (answer, told, out) = least(rt.alloc(), &space, ty, 1, 24);
+    assert_eq!(rt; (answer, told), (Err(SpaceFault::NoRoom), want));
+    assert_eq!(rt; out, [46; 26]);
     Ok(())
 }
 
-/// A weight that is too great, and too many entries.
+/// A weight that is too great, too many entries, and a number that stands for nothing.
 #[test]
 fn refused_trees(rt: HostRuntime) -> Result<(), Fail> {
-    let alloc = rt.alloc();
-    let mut space = Space::new(alloc);
-    let mut told = NOTHING;
-    let mut heavy = USUAL;
-    heavy.part = 1_000_001;
-    let refused = least_tree(&space, alloc, int(), &heavy, &mut [], &mut told);
-    assert_eq!(rt; refused, Err(SpaceFault::BadArgument));
-    let many = space.contiguous(alloc, 1025, int())?;
-    let refused = least_tree(&space, alloc, many, &USUAL, &mut [], &mut told);
-    assert_eq!(rt; refused, Err(SpaceFault::TooMany));
+    let mut space = Space::new(rt.alloc());
+    let many = vector(rt.alloc(), &mut space, 1025, int())?;
+    let rows = [
+        (int(), 1_000_001, SpaceFault::BadArgument),
+        (many, 1, SpaceFault::TooMany),
+        (stale(), 1_000_001, SpaceFault::NoSuchType),
+    ];
+    for (ty, place, want) in rows {
+        let (answer, told, _) = least(rt.alloc(), &space, ty, place, 26);
+        assert_eq!(rt; (answer, told.base), (Err(want), 9));
+    }
     Ok(())
 }

@@ -9,17 +9,13 @@ use std::test::Fail;
 /// 2^61, the greatest stride.
 const FAR: i64 = 2_305_843_009_213_693_952;
 
-fn byte() -> Node {
-    Node::Leaf(Kind::Byte)
-}
-
 /// Blocks of a byte with a stride.
 fn vector(alloc: Global, count: u32, block: u32, stride: i64) -> Result<Node, AllocError> {
     Ok(Node::Vector {
         count,
         block,
         stride,
-        child: Boxed::new(alloc, byte())?,
+        child: Boxed::new(alloc, Node::Leaf(Kind::Byte))?,
     })
 }
 
@@ -32,7 +28,7 @@ fn index(alloc: Global, number: u32, block: u32, place: i64) -> Result<Node, All
     Ok(Node::Index {
         block,
         places,
-        child: Boxed::new(alloc, byte())?,
+        child: Boxed::new(alloc, Node::Leaf(Kind::Byte))?,
     })
 }
 
@@ -40,7 +36,7 @@ fn index(alloc: Global, number: u32, block: u32, place: i64) -> Result<Node, All
 fn group(alloc: Global, number: u32, block: u32, disp: i64) -> Result<Node, AllocError> {
     let mut parts = Items::new(alloc);
     for _ in 0..number {
-        let node = byte();
+        let node = Node::Leaf(Kind::Byte);
         parts.push(GroupPart { block, disp, node })?;
     }
     Ok(Node::Group { parts })

@@ -23,12 +23,9 @@ fn table(
 {
     let mut lows = Vec::new(alloc);
     'members: for (from, to, low) in members {
-        if *from < *to && *to <= classes.len() {
-            lows.push(Low {
-                from: *from,
-                to: *to,
-                low: *low,
-            })?;
+        let (from, to, low) = (*from, *to, *low);
+        if from < to && to <= classes.len() {
+            lows.push(Low { from, to, low })?;
         }
     }
     Ok(lows)
@@ -98,16 +95,12 @@ fn uneven(alloc: Global, other: Kind) -> Result<u64, Fail> {
     Ok(normalise(alloc, &map, &Weights::default())?.cost)
 }
 
-/// An index: its node, the places and a leaf.
+/// Ints alone are an index: its node, the places and a leaf. Ints and bytes in turn admit nothing but a struct of leaves: the struct, and
+/// for each leaf its part and itself.
 #[test]
-fn the_greatest_index(rt: HostRuntime) -> Result<(), Fail> {
-    assert_eq!(rt; uneven(rt.alloc(), Kind::Int)?, 1027);
-    Ok(())
-}
-
-/// Nothing but a struct of leaves: the struct, and for each leaf its part and itself.
-#[test]
-fn the_greatest_struct(rt: HostRuntime) -> Result<(), Fail> {
-    assert_eq!(rt; uneven(rt.alloc(), Kind::Byte)?, 3074);
+fn greatest_maps(rt: HostRuntime) -> Result<(), Fail> {
+    for (other, cost) in [(Kind::Int, 1027), (Kind::Byte, 3074)] {
+        assert_eq!(rt; uneven(rt.alloc(), other)?, cost);
+    }
     Ok(())
 }
