@@ -1,18 +1,14 @@
 //! Datatypes that each constructor makes, by their sizes and extents.
 
-use crate::numbers::{byte, int, short, size};
-use dt_form::{AddrBlock, Dist, DistDim, IntBlock, Order, PartOf, SubDim};
+use crate::numbers::{basic, int, part, short, size};
+use dt_form::{AddrBlock, Dist, DistDim, IntBlock, Order, SubDim};
 use dt_space::{Extent, Space, SpaceFault, TypeNumber};
 use std::alloc::Global;
 use std::test::Fail;
 
-/// A datatype of one old type and numbers, an int's.
-fn of_numbers(
-    alloc: Global,
-    space: &mut Space,
-    constructor: usize,
-) -> Result<TypeNumber, SpaceFault> {
-    match constructor {
+/// A datatype of ints and numbers.
+fn of_numbers(alloc: Global, space: &mut Space, which: usize) -> Result<TypeNumber, SpaceFault> {
+    match which {
         0 => space.contiguous(alloc, 3, int()),
         1 => space.vector(alloc, 2, 1, 2, int()),
         2 => space.hvector(alloc, 2, 1, -8, int()),
@@ -21,65 +17,40 @@ fn of_numbers(
     }
 }
 
-/// A datatype of one old type and a list, a short's.
-fn of_a_list(
-    alloc: Global,
-    space: &mut Space,
-    constructor: usize,
-) -> Result<TypeNumber, SpaceFault> {
+/// A datatype of shorts and a list.
+fn of_a_list(alloc: Global, space: &mut Space, which: usize) -> Result<TypeNumber, SpaceFault> {
     let blocks = [IntBlock { len: 1, disp: 1 }, IntBlock { len: 2, disp: 4 }];
     let in_bytes = [AddrBlock { len: 1, disp: 2 }, AddrBlock { len: 2, disp: 8 }];
-    match constructor {
-        0 => space.indexed(alloc, &blocks, short()),
-        1 => space.hindexed(alloc, &in_bytes, short()),
-        2 => space.indexed_block(alloc, 2, &[3, 0], short()),
+    match which {
+        5 => space.indexed(alloc, &blocks, short()),
+        6 => space.hindexed(alloc, &in_bytes, short()),
+        7 => space.indexed_block(alloc, 2, &[3, 0], short()),
         _ => space.hindexed_block(alloc, 1, &[88, 70, 57], short()),
     }
 }
 
-/// Two bytes, and an int before them.
-fn structure(alloc: Global, space: &mut Space) -> Result<TypeNumber, SpaceFault> {
-    let bytes = PartOf {
-        len: 2,
-        disp: 8,
-        old: byte(),
-    };
-    let int = PartOf {
-        len: 1,
-        disp: -4,
-        old: int(),
-    };
-    space.structure(alloc, &[bytes, int])
-}
-
-/// Two of four ints, from the second one on.
-fn subarray(alloc: Global, space: &mut Space) -> Result<TypeNumber, SpaceFault> {
-    let dim = SubDim {
-        size: 4,
-        sub: 2,
-        start: 1,
-    };
-    space.subarray(alloc, &[dim], Order::C, int())
-}
-
-/// Of six ints, dealt out in blocks of four to two processes, those of the second.
-fn darray(alloc: Global, space: &mut Space) -> Result<TypeNumber, SpaceFault> {
-    let dim = DistDim {
+/// Two bytes and an int before them; two of four ints, from the second one on; and of six ints, dealt out in blocks of four to two
+/// processes, those of the second.
+fn of_parts(alloc: Global, space: &mut Space, which: usize) -> Result<TypeNumber, SpaceFault> {
+    let (size, sub, start) = (4, 2, 1);
+    let dealt = DistDim {
         gsize: 6,
         dist: Dist::Block,
         darg: Some(4),
         psize: 2,
     };
-    space.darray(alloc, 2, 1, &[dim], Order::C, int())
+    match which {
+        9 => space.structure(alloc, &[part(2, 8, basic(0)), part(1, -4, int())]),
+        10 => space.subarray(alloc, &[SubDim { size, sub, start }], Order::C, int()),
+        _ => space.darray(alloc, 2, 1, &[dealt], Order::C, int()),
+    }
 }
 
-fn made(alloc: Global, space: &mut Space, constructor: usize) -> Result<TypeNumber, SpaceFault> {
-    match constructor {
-        0..5 => of_numbers(alloc, space, constructor),
-        5..9 => of_a_list(alloc, space, constructor - 5),
-        9 => structure(alloc, space),
-        10 => subarray(alloc, space),
-        _ => darray(alloc, space),
+fn made(alloc: Global, space: &mut Space, which: usize) -> Result<TypeNumber, SpaceFault> {
+    match which {
+        0..5 => of_numbers(alloc, space, which),
+        5..9 => of_a_list(alloc, space, which),
+        _ => of_parts(alloc, space, which),
     }
 }
 
@@ -92,7 +63,7 @@ fn extents(alloc: Global, space: &Space, ty: TypeNumber) -> Result<[i64; 4], Spa
 
 #[test]
 fn by_each_constructor(rt: HostRuntime) -> Result<(), Fail> {
-    let rows: [(u64, [i64; 4]); 12] = [
+    let rows = [
         (12, [0, 12, 0, 12]),
         (8, [0, 12, 0, 12]),
         (8, [-8, 12, -8, 12]),
@@ -107,10 +78,10 @@ fn by_each_constructor(rt: HostRuntime) -> Result<(), Fail> {
         (8, [0, 24, 16, 8]),
     ];
     let mut space = Space::new(rt.alloc());
-    for (constructor, (bytes, want)) in rows.iter().enumerate() {
-        let ty = made(rt.alloc(), &mut space, constructor)?;
-        assert_eq!(rt; size(rt.alloc(), &space, ty)?, *bytes, "{constructor}");
-        assert_eq!(rt; extents(rt.alloc(), &space, ty)?, *want, "{constructor}");
+    for (which, (bytes, want)) in rows.iter().enumerate() {
+        let ty = made(rt.alloc(), &mut space, which)?;
+        assert_eq!(rt; size(rt.alloc(), &space, ty)?, *bytes, "{which}");
+        assert_eq!(rt; extents(rt.alloc(), &space, ty)?, *want, "{which}");
     }
     Ok(())
 }

@@ -1,110 +1,150 @@
-//! Copies and reductions.
+//! Copies and reductions, and packing, at once and in pieces: mostly of a vector of two elements, every other one.
 
-use crate::numbers::{copies, every_other, int, short};
+use crate::numbers::{every_other, int, short};
 use dt_numbered::{copy, reduce};
 use dt_space::{Operation, Space, SpaceFault};
 use std::alloc::Global;
 use std::test::Fail;
 
-/// What a copy from twelve bytes answers, and what it leaves of twelve zeros.
+const BYTES: [u8; 12] = [1, 2, 3, 4, 5, 6, 7, 8, 9, 10, 11, 12];
+
+/// What a copy of one datatype's bytes to another's answers, and what it leaves of twelve zeros.
 fn copied(
     alloc: Global,
     space: &Space,
     from: Operation,
     onto: Operation,
 ) -> (Result<u64, SpaceFault>, [u8; 12]) {
-    let source = [1, 2, 3, 4, 5, 6, 7, 8, 9, 10, 11, 12];
     let mut target = [0; 12];
-    let answer = copy(space, alloc, from, &source, onto, &mut target);
+    let answer = copy(space, alloc, from, &BYTES, onto, &mut target);
     (answer, target)
 }
 
 /// Two ints, every other one, to the second and third of three adjacent ints.
 #[test]
-fn a_vector_to_adjacent_ints(rt: HostRuntime) -> Result<(), Fail> {
+fn copies(rt: HostRuntime) -> Result<(), Fail> {
     let mut space = Space::new(rt.alloc());
     let from = every_other(rt.alloc(), &mut space, int())?;
-    let mut onto = copies(int(), 2);
-    onto.origin = 4;
-    let (answer, target) = copied(rt.alloc(), &space, from, onto);
-    assert_eq!(rt; answer, Ok(2));
-    assert_eq!(rt; target, [0, 0, 0, 0, 1, 2, 3, 4, 9, 10, 11, 12]);
+    let mut onto = from;
+    (onto.ty, onto.count, onto.origin) = (int(), 2, 4);
+    let want = (Ok(2), [0, 0, 0, 0, 1, 2, 3, 4, 9, 10, 11, 12]);
+    assert_eq!(rt; copied(rt.alloc(), &space, from, onto), want);
     Ok(())
 }
 
-/// Two elements to one, a short to an int, and four ints, of which each buffer has three.
-#[test]
-fn refused_copies(rt: HostRuntime) {
-    let space = Space::new(rt.alloc());
-    let rows = [
-        (copies(int(), 2), copies(int(), 1), SpaceFault::Longer),
-        (copies(short(), 1), copies(int(), 1), SpaceFault::Differs),
-        (copies(int(), 4), copies(int(), 4), SpaceFault::Outside),
-    ];
-    for (from, onto, want) in rows {
-        let (answer, target) = copied(rt.alloc(), &space, from, onto);
-        assert_eq!(rt; answer, Err(want));
-        assert_eq!(rt; target, [0; 12]);
-    }
-}
-
-/// Two shorts, every other one: 1 and -2.
-const BEFORE: [u8; 6] = [1, 0, 7, 7, 254, 255];
-
-/// What the operation of a number makes of them and of 3 and -4, which stand behind a byte, and the bytes behind that.
+/// What the operation of a number makes of two shorts, 3 and -4 behind a byte, and of 1 and -2, every other one each.
 fn reduced(
     alloc: Global,
     space: &Space,
     op: u64,
     shorts: Operation,
-    source_origin: i64,
 ) -> (Result<u64, SpaceFault>, [u8; 6]) {
     let source = [9, 3, 0, 9, 9, 252, 255, 9];
-    let mut target = BEFORE;
-    let answer = reduce(
-        space,
-        alloc,
-        op,
-        shorts,
-        &source,
-        source_origin,
-        &mut target,
-    );
+    let mut target = [1, 0, 7, 7, 254, 255];
+    let answer = reduce(space, alloc, op, shorts, &source, 1, &mut target);
     (answer, target)
 }
 
+/// Each operation, and a number of none.
 #[test]
 fn operations_on_shorts(rt: HostRuntime) -> Result<(), Fail> {
     let mut space = Space::new(rt.alloc());
     let shorts = every_other(rt.alloc(), &mut space, short())?;
-    let rows: [(u64, [u8; 6]); 9] = [
-        (0, [4, 0, 7, 7, 250, 255]),
-        (1, [3, 0, 7, 7, 8, 0]),
-        (2, [1, 0, 7, 7, 252, 255]),
-        (3, [3, 0, 7, 7, 254, 255]),
-        (4, [1, 0, 7, 7, 252, 255]),
-        (5, [3, 0, 7, 7, 254, 255]),
-        (6, [2, 0, 7, 7, 2, 0]),
-        (7, [3, 0, 7, 7, 252, 255]),
-        (8, [1, 0, 7, 7, 254, 255]),
+    let rows = [
+        (0, Ok(2), [4, 0, 7, 7, 250, 255]),
+        (1, Ok(2), [3, 0, 7, 7, 8, 0]),
+        (2, Ok(2), [1, 0, 7, 7, 252, 255]),
+        (3, Ok(2), [3, 0, 7, 7, 254, 255]),
+        (4, Ok(2), [1, 0, 7, 7, 252, 255]),
+        (5, Ok(2), [3, 0, 7, 7, 254, 255]),
+        (6, Ok(2), [2, 0, 7, 7, 2, 0]),
+        (7, Ok(2), [3, 0, 7, 7, 252, 255]),
+        (8, Ok(2), [1, 0, 7, 7, 254, 255]),
+        (9, Err(SpaceFault::BadArgument), [1, 0, 7, 7, 254, 255]),
     ];
-    for (op, want) in rows {
-        let (answer, target) = reduced(rt.alloc(), &space, op, shorts, 1);
-        assert_eq!(rt; answer, Ok(2));
-        assert_eq!(rt; target, want, "operation {op}");
+    for (op, answer, target) in rows {
+        let found = reduced(rt.alloc(), &space, op, shorts);
+        assert_eq!(rt; found, (answer, target), "operation {op}");
     }
     Ok(())
 }
 
-/// A number of no operation, and shorts that end behind the source.
+/// Packs the bytes behind the first of nine zeros, and unpacks what is there into twelve.
+fn there_and_back(alloc: Global) -> Result<([u8; 9], [u8; 12]), SpaceFault> {
+    let mut space = Space::new(alloc);
+    let op = every_other(alloc, &mut space, int())?;
+    let mut packed = [0; 9];
+    let mut back = [0; 12];
+    space.pack(alloc, op, &BYTES, &mut packed, 1)?;
+    space.unpack(alloc, op, &packed, 1, &mut back)?;
+    Ok((packed, back))
+}
+
 #[test]
-fn refused_reductions(rt: HostRuntime) -> Result<(), Fail> {
-    let mut space = Space::new(rt.alloc());
-    let shorts = every_other(rt.alloc(), &mut space, short())?;
-    for (op, origin, want) in [(9, 1, SpaceFault::BadArgument), (0, 3, SpaceFault::Outside)] {
-        let (answer, target) = reduced(rt.alloc(), &space, op, shorts, origin);
-        assert_eq!(rt; answer, Err(want));
-        assert_eq!(rt; target, BEFORE);
-    }
+fn at_once(rt: HostRuntime) -> Result<(), Fail> {
+    let (packed, back) = there_and_back(rt.alloc())?;
+    assert_eq!(rt; packed, [0, 1, 2, 3, 4, 9, 10, 11, 12]);
+    assert_eq!(rt; back, [1, 2, 3, 4, 0, 0, 0, 0, 9, 10, 11, 12]);
+    Ok(())
+}
+
+/// A space in which one session is open.
+fn opened(alloc: Global, packs: bool) -> Result<(Space, u64), SpaceFault> {
+    let mut space = Space::new(alloc);
+    let op = every_other(alloc, &mut space, int())?;
+    let session = if packs {
+        space.open_pack(alloc, op, 12)?
+    } else {
+        space.open_unpack(alloc, op, 12)?
+    };
+    Ok((space, session))
+}
+
+/// The next five packed bytes of a session.
+fn five(space: &mut Space, session: u64) -> Result<[u8; 5], SpaceFault> {
+    let mut out = [0; 5];
+    space.take(session, &BYTES, &mut out)?;
+    Ok(out)
+}
+
+/// Goes to a byte, and tells the total and the position.
+fn sought(space: &mut Space, session: u64, byte: u64) -> Result<(u64, u64), SpaceFault> {
+    space.seek(session, byte)?;
+    let progress = space.progress(session)?;
+    Ok((progress.total, progress.position))
+}
+
+fn closed(space: &mut Space, session: u64) -> bool {
+    space.close(session).is_ok()
+}
+
+/// A session that is closed goes to no byte.
+#[test]
+fn in_pieces_with_a_seek(rt: HostRuntime) -> Result<(), Fail> {
+    let (mut space, session) = opened(rt.alloc(), true)?;
+    assert_eq!(rt; five(&mut space, session)?, [1, 2, 3, 4, 9]);
+    assert_eq!(rt; sought(&mut space, session, 3), Ok((8, 3)));
+    assert_eq!(rt; five(&mut space, session)?, [4, 9, 10, 11, 12]);
+    assert!(rt; closed(&mut space, session));
+    let gone = sought(&mut space, session, 0);
+    assert_eq!(rt; gone, Err(SpaceFault::NoSuchSession));
+    Ok(())
+}
+
+/// Gives a session the first five bytes, over zeros: how many elements were completed, the bytes of a further one, and what is set.
+fn given(space: &mut Space, session: u64) -> Result<(u64, u64, [u8; 12]), SpaceFault> {
+    let mut buf = [0; 12];
+    let receipt = space.give(session, &mut buf, &BYTES[..5])?;
+    Ok((receipt.completed, receipt.held, buf))
+}
+
+/// Such a session goes to no byte.
+#[test]
+fn a_session_that_unpacks(rt: HostRuntime) -> Result<(), Fail> {
+    let (mut space, session) = opened(rt.alloc(), false)?;
+    let want = (1, 1, [1, 2, 3, 4, 0, 0, 0, 0, 0, 0, 0, 0]);
+    assert_eq!(rt; given(&mut space, session)?, want);
+    let back = sought(&mut space, session, 0);
+    assert_eq!(rt; back, Err(SpaceFault::NoSuchSession));
     Ok(())
 }

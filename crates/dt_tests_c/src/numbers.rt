@@ -1,19 +1,14 @@
-//! Numbers of basic types and of a vector, and operations. Each call stands in a small function, so that what it promises ends there.
+//! Numbers of datatypes, and operations. Each call stands in a small function, so that what it promises ends there.
 
+use dt_form::PartOf;
 use dt_kinds::Rep;
 use dt_space::{BASIC, Operation, Space, SpaceFault, TypeNumber};
 use std::alloc::Global;
 
 /// The number of a basic type, by its place in the table of kinds.
 pub(crate) fn basic(slot: usize) -> TypeNumber {
-    TypeNumber {
-        slot,
-        serial: BASIC,
-    }
-}
-
-pub(crate) fn byte() -> TypeNumber {
-    basic(0)
+    let serial = BASIC;
+    TypeNumber { slot, serial }
 }
 
 pub(crate) fn short() -> TypeNumber {
@@ -24,26 +19,17 @@ pub(crate) fn int() -> TypeNumber {
     basic(6)
 }
 
-pub(crate) fn long() -> TypeNumber {
-    basic(8)
-}
-
 /// A number that stands for nothing.
 pub(crate) fn stale() -> TypeNumber {
     TypeNumber { slot: 7, serial: 7 }
 }
 
-/// So many copies from the first byte on.
-pub(crate) fn copies(ty: TypeNumber, count: i32) -> Operation {
-    Operation {
-        ty,
-        count,
-        origin: 0,
-        rep: Rep::Native,
-    }
+/// A part of a struct.
+pub(crate) fn part(len: i32, disp: i64, old: TypeNumber) -> PartOf<TypeNumber> {
+    PartOf { len, disp, old }
 }
 
-/// So many of another datatype, every other one.
+/// So many of a basic type, every other one.
 pub(crate) fn vector(
     alloc: Global,
     space: &mut Space,
@@ -53,7 +39,7 @@ pub(crate) fn vector(
     space.vector(alloc, count, 1, 2, old)
 }
 
-/// Two of a basic type, every other one, committed.
+/// Two of a basic type, every other one, from the first byte on.
 pub(crate) fn every_other(
     alloc: Global,
     space: &mut Space,
@@ -61,9 +47,18 @@ pub(crate) fn every_other(
 ) -> Result<Operation, SpaceFault> {
     let ty = vector(alloc, space, 2, old)?;
     space.commit(ty)?;
-    Ok(copies(ty, 1))
+    Ok(Operation {
+        ty,
+        count: 1,
+        origin: 0,
+        rep: Rep::Native,
+    })
 }
 
 pub(crate) fn size(alloc: Global, space: &Space, ty: TypeNumber) -> Result<u64, SpaceFault> {
     space.size(alloc, ty)
+}
+
+pub(crate) fn freed(space: &mut Space, ty: TypeNumber) -> bool {
+    space.free(ty).is_ok()
 }
