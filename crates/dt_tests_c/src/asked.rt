@@ -1,6 +1,6 @@
 //! What is asked of datatypes: envelopes, contents, and counts of received bytes.
 
-use crate::numbers::{basic, freed, int, part, short, size, stale, vector};
+use crate::numbers::{Answer, basic, freed, int, part, short, size, stale, vector};
 use dt_form::IntBlock;
 use dt_kinds::Rep;
 use dt_numbered::{
@@ -16,7 +16,7 @@ fn of_another(
     space: &mut Space,
     old: TypeNumber,
     parts: bool,
-) -> Result<TypeNumber, SpaceFault> {
+) -> Answer<TypeNumber> {
     if parts {
         return space.structure(alloc, &[part(1, -8, int()), part(2, 40, old)]);
     }
@@ -25,7 +25,7 @@ fn of_another(
 }
 
 /// What an envelope says: the combiner, and the lengths of three lists.
-fn enveloped(alloc: Global, space: &Space, ty: TypeNumber) -> Result<[u64; 4], SpaceFault> {
+fn enveloped(alloc: Global, space: &Space, ty: TypeNumber) -> Answer<[u64; 4]> {
     let told = envelope(space, alloc, ty)?;
     Ok([told.combiner, told.integers, told.addresses, told.types])
 }
@@ -48,7 +48,7 @@ fn envelopes(rt: HostRuntime) -> Result<(), Fail> {
 
 /// What a caller's lists hold behind contents: room for so many integers and two addresses, nines at first, and two shorts. The answer
 /// stands before it, and how many integers are told behind it.
-type Listed = (Result<(), SpaceFault>, [i64; 8], [TypeNumber; 2], u64);
+type Listed = (Answer<()>, [i64; 8], [TypeNumber; 2], u64);
 
 fn listed(alloc: Global, space: &mut Space, ty: TypeNumber, room: usize) -> Listed {
     let mut numbers = [9; 8];
@@ -105,18 +105,12 @@ fn refused_contents(rt: HostRuntime) -> Result<(), Fail> {
 }
 
 /// A long and a short: 10 bytes in memory, 6 in external32.
-fn mixed(alloc: Global, space: &mut Space) -> Result<TypeNumber, SpaceFault> {
+fn mixed(alloc: Global, space: &mut Space) -> Answer<TypeNumber> {
     space.structure(alloc, &[part(1, 0, basic(8)), part(1, 8, short())])
 }
 
 /// How many elements and how many copies of a datatype so many bytes are.
-fn counted(
-    alloc: Global,
-    space: &Space,
-    ty: TypeNumber,
-    rep: Rep,
-    bytes: u64,
-) -> [Result<u64, SpaceFault>; 2] {
+fn counted(alloc: Global, space: &Space, ty: TypeNumber, rep: Rep, bytes: u64) -> [Answer<u64>; 2] {
     [
         received_elements(space, alloc, ty, rep, bytes),
         received_copies(space, alloc, ty, rep, bytes),

@@ -1,13 +1,13 @@
 //! Datatypes that each constructor makes, by their sizes and extents.
 
-use crate::numbers::{basic, int, part, short, size};
+use crate::numbers::{Answer, basic, int, part, short, size};
 use dt_form::{AddrBlock, Dist, DistDim, IntBlock, Order, SubDim};
-use dt_space::{Extent, Space, SpaceFault, TypeNumber};
+use dt_space::{Extent, Space, TypeNumber};
 use std::alloc::Global;
 use std::test::Fail;
 
 /// A datatype of ints and numbers.
-fn of_numbers(alloc: Global, space: &mut Space, which: usize) -> Result<TypeNumber, SpaceFault> {
+fn of_numbers(alloc: Global, space: &mut Space, which: usize) -> Answer<TypeNumber> {
     match which {
         0 => space.contiguous(alloc, 3, int()),
         1 => space.vector(alloc, 2, 1, 2, int()),
@@ -18,7 +18,7 @@ fn of_numbers(alloc: Global, space: &mut Space, which: usize) -> Result<TypeNumb
 }
 
 /// A datatype of shorts and a list.
-fn of_a_list(alloc: Global, space: &mut Space, which: usize) -> Result<TypeNumber, SpaceFault> {
+fn of_a_list(alloc: Global, space: &mut Space, which: usize) -> Answer<TypeNumber> {
     let blocks = [IntBlock { len: 1, disp: 1 }, IntBlock { len: 2, disp: 4 }];
     let in_bytes = [AddrBlock { len: 1, disp: 2 }, AddrBlock { len: 2, disp: 8 }];
     match which {
@@ -31,7 +31,7 @@ fn of_a_list(alloc: Global, space: &mut Space, which: usize) -> Result<TypeNumbe
 
 /// Two bytes and an int before them; two of four ints, from the second one on; and of six ints, dealt out in blocks of four to two
 /// processes, those of the second.
-fn of_parts(alloc: Global, space: &mut Space, which: usize) -> Result<TypeNumber, SpaceFault> {
+fn of_parts(alloc: Global, space: &mut Space, which: usize) -> Answer<TypeNumber> {
     let (size, sub, start) = (4, 2, 1);
     let dealt = DistDim {
         gsize: 6,
@@ -46,7 +46,7 @@ fn of_parts(alloc: Global, space: &mut Space, which: usize) -> Result<TypeNumber
     }
 }
 
-fn made(alloc: Global, space: &mut Space, which: usize) -> Result<TypeNumber, SpaceFault> {
+fn made(alloc: Global, space: &mut Space, which: usize) -> Answer<TypeNumber> {
     match which {
         0..5 => of_numbers(alloc, space, which),
         5..9 => of_a_list(alloc, space, which),
@@ -55,7 +55,7 @@ fn made(alloc: Global, space: &mut Space, which: usize) -> Result<TypeNumber, Sp
 }
 
 /// The lower bound and the extent, with marks and without.
-fn extents(alloc: Global, space: &Space, ty: TypeNumber) -> Result<[i64; 4], SpaceFault> {
+fn extents(alloc: Global, space: &Space, ty: TypeNumber) -> Answer<[i64; 4]> {
     let Extent { lb, extent } = space.extent(alloc, ty)?;
     let entries = space.true_extent(alloc, ty)?;
     Ok([lb, extent, entries.lb, entries.extent])

@@ -1,6 +1,6 @@
 //! Copies and reductions, and packing, at once and in pieces: mostly of a vector of two elements, every other one.
 
-use crate::numbers::{every_other, int, short};
+use crate::numbers::{Answer, every_other, int, short};
 use dt_numbered::{copy, reduce};
 use dt_space::{Operation, Space, SpaceFault};
 use std::alloc::Global;
@@ -8,37 +8,21 @@ use std::test::Fail;
 
 const BYTES: [u8; 12] = [1, 2, 3, 4, 5, 6, 7, 8, 9, 10, 11, 12];
 
-/// What a copy of one datatype's bytes to another's answers, and what it leaves of twelve zeros.
-fn copied(
-    alloc: Global,
-    space: &Space,
-    from: Operation,
-    onto: Operation,
-) -> (Result<u64, SpaceFault>, [u8; 12]) {
-    let mut target = [0; 12];
-    let answer = copy(space, alloc, from, &BYTES, onto, &mut target);
-    (answer, target)
-}
-
 /// Two ints, every other one, to the second and third of three adjacent ints.
 #[test]
 fn copies(rt: HostRuntime) -> Result<(), Fail> {
-    let mut space = Space::new(rt.alloc());
-    let from = every_other(rt.alloc(), &mut space, int())?;
+    let (space, from) = every_other(rt.alloc(), int())?;
     let mut onto = from;
     (onto.ty, onto.count, onto.origin) = (int(), 2, 4);
-    let want = (Ok(2), [0, 0, 0, 0, 1, 2, 3, 4, 9, 10, 11, 12]);
-    assert_eq!(rt; copied(rt.alloc(), &space, from, onto), want);
+    let mut target = [0; 12];
+    let elements = copy(&space, rt.alloc(), from, &BYTES, onto, &mut target)?;
+    assert_eq!(rt; elements, 2);
+    assert_eq!(rt; target, [0, 0, 0, 0, 1, 2, 3, 4, 9, 10, 11, 12]);
     Ok(())
 }
 
 /// What the operation of a number makes of two shorts, 3 and -4 behind a byte, and of 1 and -2, every other one each.
-fn reduced(
-    alloc: Global,
-    space: &Space,
-    op: u64,
-    shorts: Operation,
-) -> (Result<u64, SpaceFault>, [u8; 6]) {
+fn reduced(alloc: Global, space: &Space, op: u64, shorts: Operation) -> (Answer<u64>, [u8; 6]) {
     let source = [9, 3, 0, 9, 9, 252, 255, 9];
     let mut target = [1, 0, 7, 7, 254, 255];
     let answer = reduce(space, alloc, op, shorts, &source, 1, &mut target);
@@ -48,8 +32,7 @@ fn reduced(
 /// Each operation, and a number of none.
 #[test]
 fn operations_on_shorts(rt: HostRuntime) -> Result<(), Fail> {
-    let mut space = Space::new(rt.alloc());
-    let shorts = every_other(rt.alloc(), &mut space, short())?;
+    let (space, shorts) = every_other(rt.alloc(), short())?;
     let rows = [
         (0, Ok(2), [4, 0, 7, 7, 250, 255]),
         (1, Ok(2), [3, 0, 7, 7, 8, 0]),
@@ -70,9 +53,8 @@ fn operations_on_shorts(rt: HostRuntime) -> Result<(), Fail> {
 }
 
 /// Packs the bytes behind the first of nine zeros, and unpacks what is there into twelve.
-fn there_and_back(alloc: Global) -> Result<([u8; 9], [u8; 12]), SpaceFault> {
-    let mut space = Space::new(alloc);
-    let op = every_other(alloc, &mut space, int())?;
+fn there_and_back(alloc: Global) -> Answer<([u8; 9], [u8; 12])> {
+    let (space, op) = every_other(alloc, int())?;
     let mut packed = [0; 9];
     let mut back = [0; 12];
     space.pack(alloc, op, &BYTES, &mut packed, 1)?;
@@ -89,9 +71,8 @@ fn at_once(rt: HostRuntime) -> Result<(), Fail> {
 }
 
 /// A space in which one session is open.
-fn opened(alloc: Global, packs: bool) -> Result<(Space, u64), SpaceFault> {
-    let mut space = Space::new(alloc);
-    let op = every_other(alloc, &mut space, int())?;
+fn opened(alloc: Global, packs: bool) -> Answer<(Space, u64)> {
+    let (mut space, op) = every_other(alloc, int())?;
     let session = if packs {
         space.open_pack(alloc, op, 12)?
     } else {
@@ -101,14 +82,14 @@ fn opened(alloc: Global, packs: bool) -> Result<(Space, u64), SpaceFault> {
 }
 
 /// The next five packed bytes of a session.
-fn five(space: &mut Space, session: u64) -> Result<[u8; 5], SpaceFault> {
+fn five(space: &mut Space, session: u64) -> Answer<[u8; 5]> {
     let mut out = [0; 5];
     space.take(session, &BYTES, &mut out)?;
     Ok(out)
 }
 
 /// Goes to a byte, and tells the total and the position.
-fn sought(space: &mut Space, session: u64, byte: u64) -> Result<(u64, u64), SpaceFault> {
+fn sought(space: &mut Space, session: u64, byte: u64) -> Answer<(u64, u64)> {
     space.seek(session, byte)?;
     let progress = space.progress(session)?;
     Ok((progress.total, progress.position))
@@ -132,7 +113,7 @@ fn in_pieces_with_a_seek(rt: HostRuntime) -> Result<(), Fail> {
 }
 
 /// Gives a session the first five bytes, over zeros: how many elements were completed, the bytes of a further one, and what is set.
-fn given(space: &mut Space, session: u64) -> Result<(u64, u64, [u8; 12]), SpaceFault> {
+fn given(space: &mut Space, session: u64) -> Answer<(u64, u64, [u8; 12])> {
     let mut buf = [0; 12];
     let receipt = space.give(session, &mut buf, &BYTES[..5])?;
     Ok((receipt.completed, receipt.held, buf))

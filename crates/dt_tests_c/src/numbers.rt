@@ -5,6 +5,9 @@ use dt_kinds::Rep;
 use dt_space::{BASIC, Operation, Space, SpaceFault, TypeNumber};
 use std::alloc::Global;
 
+/// What a call answers, or why it is refused.
+pub(crate) type Answer<T> = Result<T, SpaceFault>;
+
 /// The number of a basic type, by its place in the table of kinds.
 pub(crate) fn basic(slot: usize) -> TypeNumber {
     let serial = BASIC;
@@ -35,27 +38,26 @@ pub(crate) fn vector(
     space: &mut Space,
     count: i32,
     old: TypeNumber,
-) -> Result<TypeNumber, SpaceFault> {
+) -> Answer<TypeNumber> {
     space.vector(alloc, count, 1, 2, old)
 }
 
 /// Two of a basic type, every other one, from the first byte on.
-pub(crate) fn every_other(
-    alloc: Global,
-    space: &mut Space,
-    old: TypeNumber,
-) -> Result<Operation, SpaceFault> {
-    let ty = vector(alloc, space, 2, old)?;
+pub(crate) fn every_other(alloc: Global, old: TypeNumber) -> Answer<(Space, Operation)> {
+    let mut space = Space::new(alloc);
+    let ty = vector(alloc, &mut space, 2, old)?;
     space.commit(ty)?;
-    Ok(Operation {
+    let (count, origin, rep) = (1, 0, Rep::Native);
+    let op = Operation {
         ty,
-        count: 1,
-        origin: 0,
-        rep: Rep::Native,
-    })
+        count,
+        origin,
+        rep,
+    };
+    Ok((space, op))
 }
 
-pub(crate) fn size(alloc: Global, space: &Space, ty: TypeNumber) -> Result<u64, SpaceFault> {
+pub(crate) fn size(alloc: Global, space: &Space, ty: TypeNumber) -> Answer<u64> {
     space.size(alloc, ty)
 }
 

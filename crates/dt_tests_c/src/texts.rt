@@ -1,6 +1,6 @@
 //! Datatypes as bytes, and least trees as texts.
 
-use crate::numbers::{int, size, stale, vector};
+use crate::numbers::{Answer, int, size, stale, vector};
 use dt_numbered::{LeastTree, TreeWeights, export, import, least_tree};
 use dt_space::{BASIC, Space, SpaceFault, TypeNumber};
 use std::alloc::Global;
@@ -17,7 +17,7 @@ fn exported(
     space: &Space,
     ty: TypeNumber,
     room: usize,
-) -> (Result<(), SpaceFault>, usize, [u8; 20]) {
+) -> (Answer<()>, usize, [u8; 20]) {
     let mut out = [7; 20];
     let mut len: usize = 0;
     let answer = export(space, alloc, ty, &mut out[..room.min(20)], &mut len);
@@ -40,7 +40,7 @@ fn bytes_of_datatypes(rt: HostRuntime) -> Result<(), Fail> {
 }
 
 /// The size of the datatype of bytes, and whether its number is that of a basic type.
-fn imported(alloc: Global, bytes: &[u8]) -> Result<(u64, bool), SpaceFault> {
+fn imported(alloc: Global, bytes: &[u8]) -> Answer<(u64, bool)> {
     let mut space = Space::new(alloc);
     let ty = import(&mut space, alloc, bytes)?;
     Ok((size(alloc, &space, ty)?, ty.serial == BASIC))
@@ -51,7 +51,7 @@ fn imported(alloc: Global, bytes: &[u8]) -> Result<(u64, bool), SpaceFault> {
 fn datatypes_of_bytes(rt: HostRuntime) {
     let mut negative = VECTOR;
     negative[5] = 255;
-    let rows: [(&[u8], Result<(u64, bool), SpaceFault>); 4] = [
+    let rows: [(&[u8], Answer<(u64, bool)>); 4] = [
         (&VECTOR[..19], Ok((8, false))),
         (b"dtw1\x00\x08", Ok((8, true))),
         (&VECTOR[..18], Err(SpaceFault::BadText)),
@@ -77,7 +77,7 @@ fn least(
     space: &Space,
     ty: TypeNumber,
     room: usize,
-) -> (Result<(), SpaceFault>, LeastTree, [u8; 26]) {
+) -> (Answer<()>, LeastTree, [u8; 26]) {
     let (cost, base, len) = (0, 9, 0);
     let mut told = LeastTree { cost, base, len };
     let mut out = [46; 26];
@@ -91,7 +91,7 @@ fn least_trees(rt: HostRuntime) -> Result<(), Fail> {
     let mut space = Space::new(rt.alloc());
     let ty = vector(rt.alloc(), &mut space, 3, int())?;
     let dots = [46; 26];
-    let rows: [(TypeNumber, usize, Result<(), SpaceFault>, u64, &[u8]); 3] = [
+    let rows: [(TypeNumber, usize, Answer<()>, u64, &[u8]); 3] = [
         (ty, 25, Ok(()), 4, b"vector 3 1 8 leaf MPI_INT."),
         (ty, 24, Err(SpaceFault::NoRoom), 4, &dots),
         (stale(), 25, Err(SpaceFault::NoSuchType), 0, &dots),
