@@ -123,18 +123,14 @@ fn received(rt: HostRuntime) -> Result<(), Fail> {
     let mut space = Space::new(rt.alloc());
     let ty = mixed(rt.alloc(), &mut space)?;
     let most: u64 = 9_223_372_036_854_775_807;
+    let bad = [Err(SpaceFault::BadArgument); 2];
     let rows = [
         (ty, Rep::Native, 9, [Ok(1), Ok(UNDEFINED)]),
         (ty, Rep::Native, 20, [Ok(4), Ok(2)]),
         (ty, Rep::External32, 9, [Ok(2), Ok(UNDEFINED)]),
         (ty, Rep::External32, 12, [Ok(4), Ok(2)]),
         (basic(0), Rep::Native, most, [Ok(most); 2]),
-        (
-            basic(0),
-            Rep::Native,
-            most + 1,
-            [Err(SpaceFault::BadArgument); 2],
-        ),
+        (basic(0), Rep::Native, most + 1, bad),
         (stale(), Rep::Native, 1, [Err(SpaceFault::NoSuchType); 2]),
     ];
     for (ty, rep, bytes, want) in rows {

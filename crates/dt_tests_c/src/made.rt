@@ -2,7 +2,7 @@
 
 use crate::numbers::{Answer, basic, int, part, short, size};
 use dt_form::{AddrBlock, Dist, DistDim, IntBlock, Order, SubDim};
-use dt_space::{Extent, Space, TypeNumber};
+use dt_space::{Space, TypeNumber};
 use std::alloc::Global;
 use std::test::Fail;
 
@@ -54,11 +54,12 @@ fn made(alloc: Global, space: &mut Space, which: usize) -> Answer<TypeNumber> {
     }
 }
 
-/// The lower bound and the extent, with marks and without.
-fn extents(alloc: Global, space: &Space, ty: TypeNumber) -> Answer<[i64; 4]> {
-    let Extent { lb, extent } = space.extent(alloc, ty)?;
+/// The size; the lower bound and the extent, with marks and without.
+fn measured(alloc: Global, space: &Space, ty: TypeNumber) -> Answer<(u64, [i64; 4])> {
+    let whole = space.extent(alloc, ty)?;
     let entries = space.true_extent(alloc, ty)?;
-    Ok([lb, extent, entries.lb, entries.extent])
+    let bounds = [whole.lb, whole.extent, entries.lb, entries.extent];
+    Ok((size(alloc, space, ty)?, bounds))
 }
 
 #[test]
@@ -78,10 +79,9 @@ fn by_each_constructor(rt: HostRuntime) -> Result<(), Fail> {
         (8, [0, 24, 16, 8]),
     ];
     let mut space = Space::new(rt.alloc());
-    for (which, (bytes, want)) in rows.iter().enumerate() {
+    for (which, want) in rows.iter().enumerate() {
         let ty = made(rt.alloc(), &mut space, which)?;
-        assert_eq!(rt; size(rt.alloc(), &space, ty)?, *bytes, "{which}");
-        assert_eq!(rt; extents(rt.alloc(), &space, ty)?, *want, "{which}");
+        assert_eq!(rt; measured(rt.alloc(), &space, ty)?, *want, "{which}");
     }
     Ok(())
 }

@@ -52,20 +52,15 @@ fn operations_on_shorts(rt: HostRuntime) -> Result<(), Fail> {
     Ok(())
 }
 
-/// Packs the bytes behind the first of nine zeros, and unpacks what is there into twelve.
-fn there_and_back(alloc: Global) -> Answer<([u8; 9], [u8; 12])> {
-    let (space, op) = every_other(alloc, int())?;
-    let mut packed = [0; 9];
-    let mut back = [0; 12];
-    space.pack(alloc, op, &BYTES, &mut packed, 1)?;
-    space.unpack(alloc, op, &packed, 1, &mut back)?;
-    Ok((packed, back))
-}
-
+/// The bytes are packed behind the first of nine zeros, and what is there is unpacked into twelve.
 #[test]
 fn at_once(rt: HostRuntime) -> Result<(), Fail> {
-    let (packed, back) = there_and_back(rt.alloc())?;
+    let (space, op) = every_other(rt.alloc(), int())?;
+    let mut packed = [0; 9];
+    assert_eq!(rt; space.pack(rt.alloc(), op, &BYTES, &mut packed, 1)?, 9);
     assert_eq!(rt; packed, [0, 1, 2, 3, 4, 9, 10, 11, 12]);
+    let mut back = [0; 12];
+    assert_eq!(rt; space.unpack(rt.alloc(), op, &packed, 1, &mut back)?, 9);
     assert_eq!(rt; back, [1, 2, 3, 4, 0, 0, 0, 0, 9, 10, 11, 12]);
     Ok(())
 }
