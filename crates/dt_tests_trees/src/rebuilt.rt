@@ -11,9 +11,12 @@ use dt_type::CtorFault;
 use std::alloc::Global;
 use std::test::Fail;
 
-/// The fault that comes where a tree is to be a datatype, nothing where it is one.
-fn fault(alloc: Global, base: i64, tree: &Tree, marks: Option<Marks>) -> Option<CtorFault> {
-    to_type(alloc, base, Some(tree), marks).err()
+/// The fault that comes where a tree is to be a datatype, with marks or without; nothing where it is one.
+fn fault(alloc: Global, base: i64, tree: &Tree, marked: bool) -> Option<CtorFault> {
+    if marked {
+        return to_type(alloc, base, Some(tree), Some(Marks { lb: 0, ub: 4 })).err();
+    }
+    to_type(alloc, base, Some(tree), None).err()
 }
 
 /// A vector that ends at 2^60, and the same further on.
@@ -21,7 +24,7 @@ fn fault(alloc: Global, base: i64, tree: &Tree, marks: Option<Marks>) -> Option<
 fn too_far(rt: HostRuntime) -> Result<(), Fail> {
     let tree = tree(rt.alloc(), "vector 2 1 1152921504606846972 leaf MPI_INT")?;
     for (base, want) in [(0, None), (4, Some(CtorFault::Overflow))] {
-        assert_eq!(rt; fault(rt.alloc(), base, &tree, None), want);
+        assert_eq!(rt; fault(rt.alloc(), base, &tree, false), want);
     }
     Ok(())
 }
@@ -29,12 +32,11 @@ fn too_far(rt: HostRuntime) -> Result<(), Fail> {
 /// 64 levels with the basic type and the block at the base, and one more, by the marks or by a vector.
 #[test]
 fn too_deep(rt: HostRuntime) -> Result<(), Fail> {
-    let marks = Some(Marks { lb: 0, ub: 4 });
     let deeper = Some(CtorFault::TooDeep);
-    for (vectors, marks, want) in [(62, None, None), (62, marks, deeper), (63, None, deeper)] {
+    for (vectors, marked, want) in [(62, false, None), (62, true, deeper), (63, false, deeper)] {
         let text = deep(rt.alloc(), vectors)?;
         let tree = read_text(rt.alloc(), text.as_slice())?;
-        assert_eq!(rt; fault(rt.alloc(), 0, &tree, marks), want);
+        assert_eq!(rt; fault(rt.alloc(), 0, &tree, marked), want);
     }
     Ok(())
 }
@@ -44,9 +46,7 @@ fn too_deep(rt: HostRuntime) -> Result<(), Fail> {
 fn too_heavy(rt: HostRuntime) -> Result<(), Fail> {
     let node = wide(rt.alloc(), 1020)?;
     let tree = Tree::of_node(node).ok().ok_or("the tree is not too great")?;
-    assert_eq!(rt;
-        fault(rt.alloc(), 0, &tree, None),
-        Some(CtorFault::TooHeavy)
-    );
+    let found = fault(rt.alloc(), 0, &tree, false);
+    assert_eq!(rt; found, Some(CtorFault::TooHeavy));
     Ok(())
 }

@@ -23,27 +23,34 @@ fn table(
 {
     let mut lows = Vec::new(alloc);
     'members: for (from, to, low) in members {
-        let (from, to, low) = (*from, *to, *low);
-        if from < to && to <= classes.len() {
-            lows.push(Low { from, to, low })?;
+        if *from < *to && *to <= classes.len() {
+            lows.push(Low {
+                from: *from,
+                to: *to,
+                low: *low,
+            })?;
         }
     }
     Ok(lows)
 }
 
-/// The first segment at which members fail, each as a value of its segment, or each as that of its class.
+/// From where to where the first segment goes at which members fail, each as a value of its segment, or each as that of its class.
 fn failing(
     alloc: Global,
     classes: &Classes,
     by_classes: bool,
     members: &[(u32, u32, u64)],
-) -> Result<Option<Segment>, NoMemory> {
+) -> Result<Option<(u32, u32)>, NoMemory> {
     let lows = table(alloc, classes, members)?;
-    if by_classes {
-        first_failing_of_classes(alloc, classes, &Weights::default(), &lows)
+    let found = if by_classes {
+        first_failing_of_classes(alloc, classes, &Weights::default(), &lows)?
     } else {
-        first_failing(alloc, classes, &Weights::default(), &lows)
-    }
+        first_failing(alloc, classes, &Weights::default(), &lows)?
+    };
+    let Some(Segment { from, to }) = found else {
+        return Ok(None);
+    };
+    Ok(Some((from, to)))
 }
 
 /// Three ints, 8 bytes apart. Members may stand in any order, and of two of one segment the first one counts; as values of classes those
@@ -62,7 +69,6 @@ fn members_in_no_order(rt: HostRuntime) -> Result<(), Fail> {
         (true, &[(2, 3, 9), (1, 3, 9)], None),
     ];
     for (by_classes, members, want) in rows {
-        let want = want.map(|(from, to)| Segment { from, to });
         assert_eq!(rt; failing(rt.alloc(), &classes, by_classes, members)?, want);
     }
     Ok(())
