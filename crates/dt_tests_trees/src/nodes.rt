@@ -91,8 +91,7 @@ pub(crate) fn wide(alloc: Global, last: u32) -> Result<Node, AllocError> {
 #[test]
 fn size(rt: HostRuntime) -> Result<(), Fail> {
     for (last, want) in [(1020, true), (1021, false)] {
-        let node = wide(rt.alloc(), last)?;
-        assert_eq!(rt; Tree::of_node(node).is_ok(), want);
+        assert_eq!(rt; Tree::of_node(wide(rt.alloc(), last)?).is_ok(), want);
     }
     Ok(())
 }

@@ -45,8 +45,7 @@ fn elements(rt: HostRuntime) -> Result<(), Fail> {
         assert_eq!(rt; tree.cost(&Weights::default()), cost, "{text}");
         for k in 0..9 {
             let want = place(row, if k % 2 == 0 { INT } else { other }, k);
-            let found = told(rt.alloc(), &tree, k)?;
-            assert_eq!(rt; found, [want, want], "{k} of {text}");
+            assert_eq!(rt; told(rt.alloc(), &tree, k)?, [want, want], "{k} of {text}");
         }
     }
     Ok(())
