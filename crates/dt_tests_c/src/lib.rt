@@ -3,16 +3,12 @@
 #![tactic(auto)]
 
 #[cfg(test)]
-mod contents;
-#[cfg(test)]
-mod counts;
+mod asked;
 #[cfg(test)]
 mod made;
 #[cfg(test)]
 mod moving;
 #[cfg(test)]
 mod numbers;
-#[cfg(test)]
-mod packing;
 #[cfg(test)]
 mod texts;

@@ -1,66 +1,65 @@
 //! Datatypes as bytes, and least trees as texts.
 
-use crate::numbers::{int, long};
+use crate::numbers::{Answer, int, size, stale, vector};
 use dt_numbered::{LeastTree, TreeWeights, export, import, least_tree};
-use dt_space::{Space, SpaceFault, TypeNumber};
+use dt_space::{BASIC, Space, SpaceFault, TypeNumber};
 use std::alloc::Global;
 use std::test::Fail;
 
-/// A vector of two ints, every other one.
-const VECTOR: [u8; 19] = [
-    100, 116, 119, 49, 3, 0, 0, 0, 2, 0, 0, 0, 1, 0, 0, 0, 2, 0, 6,
+/// The bytes of a vector of two ints, every other one, and a seven.
+const VECTOR: [u8; 20] = [
+    100, 116, 119, 49, 3, 0, 0, 0, 2, 0, 0, 0, 1, 0, 0, 0, 2, 0, 6, 7,
 ];
 
-/// Exports that vector into a slice that holds sevens: the answer, the number of bytes that is told, and the slice.
-fn exported(alloc: Global, out: &mut [u8]) -> Result<(Result<(), SpaceFault>, usize), SpaceFault> {
-    let mut space = Space::new(alloc);
-    let ty = space.vector(alloc, 2, 1, 2, int())?;
-    let mut len: usize = 0;
-    let answer = export(&space, alloc, ty, out, &mut len);
-    Ok((answer, len))
-}
-
-#[test]
-fn bytes_of_a_vector(rt: HostRuntime) -> Result<(), Fail> {
+/// Exports a datatype over sevens, of which so many have room: the answer, the number of bytes that is told, and what is left.
+fn exported(
+    alloc: Global,
+    space: &Space,
+    ty: TypeNumber,
+    room: usize,
+) -> (Answer<()>, usize, [u8; 20]) {
     let mut out = [7; 20];
-    assert_eq!(rt; exported(rt.alloc(), &mut out)?, (Ok(()), 19));
-    assert_eq!(rt; &out[..19], VECTOR.as_slice());
-    assert_eq!(rt; out[19], 7);
-    let mut few = [7; 18];
-    assert_eq!(rt;
-        exported(rt.alloc(), &mut few)?,
-        (Err(SpaceFault::NoRoom), 19)
-    );
-    assert_eq!(rt; few.as_slice(), [7; 18].as_slice());
-    Ok(())
+    let mut len: usize = 0;
+    let answer = export(space, alloc, ty, &mut out[..room.min(20)], &mut len);
+    (answer, len, out)
 }
 
 #[test]
-fn a_vector_of_bytes(rt: HostRuntime) -> Result<(), Fail> {
-    let alloc = rt.alloc();
-    let mut space = Space::new(alloc);
-    let ty = import(&mut space, alloc, &VECTOR)?;
-    let extent = space.extent(alloc, ty)?;
-    assert_eq!(rt; (extent.lb, extent.extent), (0, 12));
-    assert_eq!(rt; space.size(alloc, ty)?, 8);
-    assert_eq!(rt; import(&mut space, alloc, b"dtw1\x00\x08")?, long());
-    Ok(())
-}
-
-/// Bytes that are cut, and a vector of a negative count.
-#[test]
-fn refused_bytes(rt: HostRuntime) -> Result<(), Fail> {
+fn bytes_of_datatypes(rt: HostRuntime) -> Result<(), Fail> {
     let mut space = Space::new(rt.alloc());
-    let mut negative = VECTOR;
-    negative[5] = 255;
-    let rows: [(&[u8], SpaceFault); 2] = [
-        (&VECTOR[..18], SpaceFault::BadText),
-        (&negative, SpaceFault::BadArgument),
+    let ty = vector(rt.alloc(), &mut space, 2, int())?;
+    let rows = [
+        (ty, 19, (Ok(()), 19, VECTOR)),
+        (ty, 18, (Err(SpaceFault::NoRoom), 19, [7; 20])),
+        (stale(), 19, (Err(SpaceFault::NoSuchType), 0, [7; 20])),
     ];
-    for (bytes, want) in rows {
-        assert_eq!(rt; import(&mut space, rt.alloc(), bytes), Err(want));
+    for (ty, room, want) in rows {
+        assert_eq!(rt; exported(rt.alloc(), &space, ty, room), want);
     }
     Ok(())
+}
+
+/// The size of the datatype of bytes, and whether its number is that of a basic type.
+fn imported(alloc: Global, bytes: &[u8]) -> Answer<(u64, bool)> {
+    let mut space = Space::new(alloc);
+    let ty = import(&mut space, alloc, bytes)?;
+    Ok((size(alloc, &space, ty)?, ty.serial == BASIC))
+}
+
+/// A vector and a long; bytes that are cut, and a vector of a negative count.
+#[test]
+fn datatypes_of_bytes(rt: HostRuntime) {
+    let mut negative = VECTOR;
+    negative[5] = 255;
+    let rows: [(&[u8], Answer<(u64, bool)>); 4] = [
+        (&VECTOR[..19], Ok((8, false))),
+        (b"dtw1\x00\x08", Ok((8, true))),
+        (&VECTOR[..18], Err(SpaceFault::BadText)),
+        (&negative[..19], Err(SpaceFault::BadArgument)),
+    ];
+    for (bytes, want) in rows {
+        assert_eq!(rt; imported(rt.alloc(), bytes), want);
+    }
 }
 
 const USUAL: TreeWeights = TreeWeights {
@@ -72,54 +71,35 @@ const USUAL: TreeWeights = TreeWeights {
     part: 2,
 };
 
-const NOTHING: LeastTree = LeastTree {
-    cost: 0,
-    base: 9,
-    len: 0,
-};
-
-/// The number of a vector of three ints, every other one.
-fn vector(alloc: Global, space: &mut Space) -> Result<TypeNumber, SpaceFault> {
-    space.vector(alloc, 3, 1, 2, int())
-}
-
-#[test]
-fn the_least_tree_of_a_vector(rt: HostRuntime) -> Result<(), Fail> {
-    let alloc = rt.alloc();
-    let mut space = Space::new(alloc);
-    let ty = vector(alloc, &mut space)?;
-    let want = LeastTree {
-        cost: 4,
-        base: 0,
-        len: 25,
-    };
-    let mut told = NOTHING;
+/// Writes a least tree of a datatype over dots, of which so many have room: the answer, what is told, and what is left.
+fn least(
+    alloc: Global,
+    space: &Space,
+    ty: TypeNumber,
+    room: usize,
+) -> (Answer<()>, LeastTree, [u8; 26]) {
+    let (cost, base, len) = (0, 9, 0);
+    let mut told = LeastTree { cost, base, len };
     let mut out = [46; 26];
-    assert_eq!(rt;
-        least_tree(&space, alloc, ty, &USUAL, &mut out, &mut told),
-        Ok(())
-    );
-    assert_eq!(rt; out.as_slice(), b"vector 3 1 8 leaf MPI_INT.".as_slice());
-    assert_eq!(rt; told, want);
-    told = NOTHING;
-    let short = least_tree(&space, alloc, ty, &USUAL, &mut out[..24], &mut told);
-    assert_eq!(rt; short, Err(SpaceFault::NoRoom));
-    assert_eq!(rt; told, want);
-    Ok(())
+    let room = &mut out[..room.min(26)];
+    let answer = least_tree(space, alloc, ty, &USUAL, room, &mut told);
+    (answer, told, out)
 }
 
-/// A weight that is too great, and too many entries.
 #[test]
-fn refused_trees(rt: HostRuntime) -> Result<(), Fail> {
-    let alloc = rt.alloc();
-    let mut space = Space::new(alloc);
-    let mut told = NOTHING;
-    let mut heavy = USUAL;
-    heavy.part = 1_000_001;
-    let refused = least_tree(&space, alloc, int(), &heavy, &mut [], &mut told);
-    assert_eq!(rt; refused, Err(SpaceFault::BadArgument));
-    let many = space.contiguous(alloc, 1025, int())?;
-    let refused = least_tree(&space, alloc, many, &USUAL, &mut [], &mut told);
-    assert_eq!(rt; refused, Err(SpaceFault::TooMany));
+fn least_trees(rt: HostRuntime) -> Result<(), Fail> {
+    let mut space = Space::new(rt.alloc());
+    let ty = vector(rt.alloc(), &mut space, 3, int())?;
+    let dots = [46; 26];
+    let rows: [(TypeNumber, usize, Answer<()>, u64, &[u8]); 3] = [
+        (ty, 25, Ok(()), 4, b"vector 3 1 8 leaf MPI_INT."),
+        (ty, 24, Err(SpaceFault::NoRoom), 4, &dots),
+        (stale(), 25, Err(SpaceFault::NoSuchType), 0, &dots),
+    ];
+    for (ty, room, answer, cost, text) in rows {
+        let found = least(rt.alloc(), &space, ty, room);
+        assert_eq!(rt; (found.0, found.1.cost), (answer, cost));
+        assert_eq!(rt; found.2.as_slice(), text);
+    }
     Ok(())
 }

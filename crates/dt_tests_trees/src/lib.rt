@@ -1,11 +1,11 @@
-//! The tests of trees and of what least trees stand on, one module a topic. Their expected values come from this project's documents or
-//! were worked by hand, never from a run of the code.
+//! The tests of trees, of tables and of certificates that no script reaches, one module a topic. Their expected values come from this
+//! project's documents or were worked by hand, never from a run of the code.
 #![tactic(auto)]
 
 #[cfg(test)]
-mod classes;
+mod certificates;
 #[cfg(test)]
-mod limits;
+mod classes;
 #[cfg(test)]
 mod nodes;
 #[cfg(test)]
@@ -15,4 +15,4 @@ mod rebuilt;
 #[cfg(test)]
 mod spellings;
 #[cfg(test)]
-mod weights;
+mod tables;
