@@ -24,17 +24,13 @@ fn is_held(alloc: Global, room: usize, fail: u64, held: usize) -> Result<bool, F
     Ok(first && whole == (held == 7) && sink.write(b"") == Ok(0))
 }
 
-/// Room for more than the text, write by write of 3, 3 and 1 bytes; and every room up to its length.
-const ROOMS: [(usize, u64, usize); 11] = [
+/// Room for more than the text, write by write of 3, 3 and 1 bytes; and other rooms up to its length.
+const ROOMS: [(usize, u64, usize); 7] = [
     (100, 0, 0),
     (100, 1, 3),
     (100, 2, 6),
     (0, 9, 0),
     (1, 9, 1),
-    (2, 9, 2),
-    (3, 9, 3),
-    (4, 9, 4),
-    (5, 9, 5),
     (6, 9, 6),
     (7, 9, 7),
 ];
@@ -50,9 +46,14 @@ fn a_sink_holds_what_was_written(rt: HostRuntime) -> Result<(), Fail> {
 #[test]
 fn a_fault_passes(rt: HostRuntime) -> Result<(), Fail> {
     let mut sink = sink(rt.alloc(), 100, 3)??;
-    assert!(rt; write_all(&mut sink, TEXT) == Ok(()));
-    assert!(rt; write_all(&mut sink, b"h") == Err(Failed));
-    assert!(rt; write_all(&mut sink, b"h") == Ok(()));
+    let rows: [(&[u8], Result<(), Failed>); 3] = [
+        (TEXT, Ok(())),
+        (b"h", Err(Failed)),
+        (b"h", Ok(())),
+    ];
+    for (piece, wanted) in rows {
+        assert!(rt; write_all(&mut sink, piece) == wanted, "{wanted:?}");
+    }
     assert!(rt; sink.held() == b"abcdefgh".as_slice());
     Ok(())
 }
@@ -82,35 +83,37 @@ impl<'a> io::Write for Pipe<'a> {
     }
 }
 
-fn piped(most: usize, flushed: &Cell<usize>, flushes: bool) -> StdSink<Pipe<'_>> {
-    StdSink::new(Pipe {
+/// How many bytes a writer takes at a time, whether it flushes, what a write of the text comes to, and one of nothing, and how many
+/// bytes were flushed. A write that takes nothing is a fault, and so is a flush that fails.
+type Row = (
+    usize,
+    bool,
+    Result<usize, Failed>,
+    Result<usize, Failed>,
+    usize,
+);
+
+const ROWS: [Row; 3] = [
+    (5, true, Ok(5), Ok(0), 5),
+    (0, true, Err(Failed), Ok(0), 0),
+    (5, false, Err(Failed), Err(Failed), 0),
+];
+
+fn holds(row: &Row) -> bool {
+    let (most, flushes, text, nothing, count) = *row;
+    let flushed = Cell::new(0);
+    let mut sink = StdSink::new(Pipe {
         most,
         written: 0,
-        flushed,
+        flushed: &flushed,
         flushes,
-    })
+    });
+    sink.write(TEXT) == text && sink.write(b"") == nothing && flushed.get() == count
 }
 
 #[test]
 fn a_writer_of_std_is_a_sink(rt: HostRuntime) {
-    let flushed = Cell::new(0);
-    let mut sink = piped(5, &flushed, true);
-    assert!(rt; sink.write(TEXT) == Ok(5));
-    assert_eq!(rt; flushed.get(), 5);
-    assert!(rt; sink.write(b"") == Ok(0));
-    assert!(rt; write_all(&mut sink, TEXT) == Ok(()));
-    assert_eq!(rt; flushed.get(), 12);
-}
-
-/// A write that takes nothing is a fault, and so is a flush that fails.
-#[test]
-fn a_writer_of_std_may_fail(rt: HostRuntime) {
-    let flushed = Cell::new(0);
-    let mut full = piped(0, &flushed, true);
-    assert!(rt; full.write(TEXT) == Err(Failed));
-    assert!(rt; full.write(b"") == Ok(0));
-    assert!(rt; write_all(&mut full, TEXT) == Err(Failed));
-    let mut broken = piped(5, &flushed, false);
-    assert!(rt; broken.write(TEXT) == Err(Failed));
-    assert!(rt; broken.write(b"") == Err(Failed));
+    for row in &ROWS {
+        assert!(rt; holds(row), "{}", row.0);
+    }
 }
