@@ -1,5 +1,5 @@
 //! Scripts that are too long to be written down.
-use crate::runs::{calm, ended};
+use crate::runs::ended;
 use std::alloc::Global;
 use std::fmt::Write;
 use std::test::Fail;
@@ -36,11 +36,11 @@ pack y native 1 MPI_INT b1 0\n",
         "refused 9 bad argument\nrefused 13 too many names\nrefused 9 bad argument\nrefused 13 too many names\n\
 refused 13 too many names\nclosed bytes 0 of 1\nrefused 15 outside\nok 4\nrefused 13 too many names\n",
     ),
-    // A million displacements of blocks of length 0 in one line.
+    // A hundred thousand displacements of blocks of length 0 in one line.
     (
         &[
             ("type n = indexed_block MPI_BYTE ", "", 1),
-            (" ", "", 1_000_000),
+            (" ", "", 100_000),
         ],
         "\n",
         0,
@@ -58,7 +58,7 @@ fn is_replied(alloc: Global, row: &Row) -> Result<bool, Fail> {
         }
     }
     script.push_str(rest)?;
-    let (status, wrote, _) = ended(alloc, &calm("run", script.as_bytes(), 65_536))?;
+    let (status, wrote, _) = ended(alloc, ("run", script.as_bytes(), 65_536), &[], &[])?;
     let before = wrote.len().checked_sub(last.len());
     Ok(status == 1 && before == Some(*first) && wrote.ends_with(last.as_bytes()))
 }
@@ -76,7 +76,7 @@ fn long_scripts(rt: HostRuntime) -> Result<(), Fail> {
 fn the_longest_input(rt: HostRuntime) -> Result<(), Fail> {
     for (len, wanted) in [(16_777_216, 0), (16_777_217, 6)] {
         let input = vec![in rt.alloc(); 32u8; len]?;
-        let (status, wrote, left) = ended(rt.alloc(), &calm("run", &input, 65_536))?;
+        let (status, wrote, left) = ended(rt.alloc(), ("run", &input, 65_536), &[], &[])?;
         assert_eq!(rt; (status, wrote.len(), left), (wanted, 0, 0));
     }
     Ok(())

@@ -1,8 +1,7 @@
 //! Sinks: pieces, room and faults.
 
 use dt_base::{Failed, MemSink, Sink, StdSink, write_all};
-use dt_kinds::NoMemory;
-use std::alloc::{AllocError, Global};
+use std::alloc::Global;
 use std::cell::Cell;
 use std::io;
 use std::test::Fail;
@@ -10,51 +9,34 @@ use std::test::Fail;
 /// What is written: 7 bytes.
 const TEXT: &[u8] = b"abcdefg";
 
-/// A sink with room for `room` bytes that takes at most 3 at a time, and whose write number `fail` fails.
-fn sink(alloc: Global, room: usize, fail: u64) -> Result<Result<MemSink, NoMemory>, AllocError> {
-    Ok(MemSink::new(alloc, room, 3, vec![in alloc; fail]?))
-}
+/// The room of a sink that takes at most 3 bytes at a time, the number of its write that fails, whether the text was written whole, and
+/// once more, and what it then holds.
+type Held = (usize, u64, [bool; 2], &'static [u8]);
 
-/// Whether a sink with so much room, whose write number `fail` fails, holds so many first bytes of the text after it
-/// was to be written, and takes no bytes then.
-fn is_held(alloc: Global, room: usize, fail: u64, held: usize) -> Result<bool, Fail> {
-    let mut sink = sink(alloc, room, fail)??;
-    let whole = write_all(&mut sink, TEXT).is_ok();
-    let first = TEXT.get(..held) == Some(sink.held());
-    Ok(first && whole == (held == 7) && sink.write(b"") == Ok(0))
-}
-
-/// Room for more than the text, write by write of 3, 3 and 1 bytes; and other rooms up to its length.
-const ROOMS: [(usize, u64, usize); 7] = [
-    (100, 0, 0),
-    (100, 1, 3),
-    (100, 2, 6),
-    (0, 9, 0),
-    (1, 9, 1),
-    (6, 9, 6),
-    (7, 9, 7),
+const HELD: [Held; 8] = [
+    (100, 0, [false, true], b"abcdefg"),
+    (100, 1, [false, true], b"abcabcdefg"),
+    (100, 2, [false, true], b"abcdefabcdefg"),
+    (100, 3, [true, false], b"abcdefg"),
+    (0, 9, [false, false], b""),
+    (1, 9, [false, false], b"a"),
+    (7, 9, [true, false], b"abcdefg"),
+    (13, 9, [true, false], b"abcdefgabcdef"),
 ];
+
+fn is_held(alloc: Global, row: &Held) -> Result<bool, Fail> {
+    let (room, fail, whole, held) = *row;
+    let mut sink = MemSink::new(alloc, room, 3, vec![in alloc; fail]?)?;
+    let first = write_all(&mut sink, TEXT).is_ok();
+    let second = write_all(&mut sink, TEXT).is_ok();
+    Ok([first, second] == whole && sink.write(b"") == Ok(0) && sink.held() == held)
+}
 
 #[test]
 fn a_sink_holds_what_was_written(rt: HostRuntime) -> Result<(), Fail> {
-    for (room, fail, held) in ROOMS {
-        assert!(rt; is_held(rt.alloc(), room, fail, held)?, "{room} {fail}");
+    for row in &HELD {
+        assert!(rt; is_held(rt.alloc(), row)?, "{} {}", row.0, row.1);
     }
-    Ok(())
-}
-
-#[test]
-fn a_fault_passes(rt: HostRuntime) -> Result<(), Fail> {
-    let mut sink = sink(rt.alloc(), 100, 3)??;
-    let rows: [(&[u8], Result<(), Failed>); 3] = [
-        (TEXT, Ok(())),
-        (b"h", Err(Failed)),
-        (b"h", Ok(())),
-    ];
-    for (piece, wanted) in rows {
-        assert!(rt; write_all(&mut sink, piece) == wanted, "{wanted:?}");
-    }
-    assert!(rt; sink.held() == b"abcdefgh".as_slice());
     Ok(())
 }
 

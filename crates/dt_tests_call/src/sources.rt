@@ -1,22 +1,12 @@
 //! Sources: pieces, faults and limits.
 
-ghost use Rattle.std.specs.Prelude.{◌≤◌};
-
 use dt_base::{Failed, MemSource, ReadEnd, Source, StdSource, read_all};
-use std::alloc::{AllocError, Global};
+use std::alloc::Global;
 use std::io;
 use std::test::Fail;
 
 /// 26 bytes.
 const TEXT: &[u8] = b"abcdefghijklmnopqrstuvwxyz";
-
-/// A source of the text that gives at most `most` bytes at a time, and whose read number `fail` fails.
-fn source(alloc: Global, most: usize, fail: u64) -> Result<MemSource, AllocError>
-    requires { 1 ≤ most }
-{
-    let fail = vec![in alloc; fail]?;
-    Ok(MemSource::new(TEXT.to_vec(alloc)?, most, fail))
-}
 
 /// The number of a read that fails, a limit, how the reading ends, if not with the whole text, and how many bytes are left.
 type Row = (u64, u16, Option<ReadEnd>, usize);
@@ -35,7 +25,7 @@ const ROWS: [Row; 7] = [
 /// Whether a row holds for a source that gives 10 bytes at a time.
 fn holds(alloc: Global, row: &Row) -> Result<bool, Fail> {
     let (fail, limit, wanted, left) = row;
-    let mut source = source(alloc, 10, *fail)?;
+    let mut source = MemSource::new(TEXT.to_vec(alloc)?, 10, vec![in alloc; *fail]?);
     let ends = match read_all(alloc, &mut source, usize::from(*limit)) {
         Ok(bytes) => wanted.is_none() && bytes.as_slice() == TEXT,
         Err(end) => *wanted == Some(end),
@@ -73,16 +63,6 @@ impl io::Read for Broken {
     }
 }
 
-#[test]
-fn a_reader_of_std_is_a_source(rt: HostRuntime) -> Result<(), Fail> {
-    let mut whole = StdSource::new(TEXT);
-    assert!(rt; read_all(rt.alloc(), &mut whole, 26)?.as_slice() == TEXT);
-    let mut broken = StdSource::new(Broken { reads: 0 });
-    let end = read_all(rt.alloc(), &mut broken, 26).err();
-    assert!(rt; end == Some(ReadEnd::Fault));
-    Ok(())
-}
-
 /// Each read in turn, and what then stands in the piece.
 const READS: [(Result<usize, Failed>, &[u8; 6]); 4] = [
     (Ok(3), b"abc..."),
@@ -92,7 +72,7 @@ const READS: [(Result<usize, Failed>, &[u8; 6]); 4] = [
 ];
 
 #[test]
-fn a_reader_of_std_goes_on_after_a_fault(rt: HostRuntime) {
+fn a_reader_of_std_is_a_source(rt: HostRuntime) {
     let mut source = StdSource::new(Broken { reads: 0 });
     let mut piece = *b"......";
     for (wanted, bytes) in READS {
@@ -101,4 +81,7 @@ fn a_reader_of_std_goes_on_after_a_fault(rt: HostRuntime) {
             "{wanted:?}"
         );
     }
+    let mut whole = StdSource::new(Broken { reads: 0 });
+    let end = read_all(rt.alloc(), &mut whole, 26).err();
+    assert!(rt; end == Some(ReadEnd::Fault));
 }

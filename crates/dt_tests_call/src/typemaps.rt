@@ -17,19 +17,12 @@ type Row = (Entries, Option<(i64, i64)>, Option<Told>);
 /// The greatest displacement.
 const MOST: i64 = 1_152_921_504_606_846_976;
 
-const ROWS: [Row; 8] = [
-    (&[], Some((-3, 5)), Some(([0, 0, 0], 1, [0, 0, -3, 5]))),
+const ROWS: [Row; 6] = [
     // In falling order: the extent 92 - 57 = 35 is rounded to 36, so the upper bound is 93, no multiple of 4.
     (
         &[(Kind::Int, 88), (Kind::Int, 70), (Kind::Int, 57)],
         None,
         Some(([12, 12, 3], 4, [57, 92, 57, 93])),
-    ),
-    // Below 0: the extent -1 - -13 = 12 is rounded to 16. A long has 4 bytes in external32.
-    (
-        &[(Kind::Long, -13), (Kind::Byte, -2)],
-        None,
-        Some(([9, 5, 2], 8, [-13, -1, -13, 3])),
     ),
     // Only rounding passes the greatest end: the extent 2^60 - 1 is rounded to 2^60.
     (
