@@ -1,211 +1,147 @@
-//! Whole runs over sources and sinks in memory. The expected texts are worked by hand from the rules.
+//! Whole runs over sources and sinks in memory.
 use dt_base::{MemSink, MemSource};
 use dt_call::dtt;
 use std::alloc::Global;
 use std::test::Fail;
 
-/// The exit status of a run of a script without faults, and what it wrote.
-pub(crate) fn replies(alloc: Global, script: &[u8]) -> Result<(u8, Vec<u8>), Fail> {
-    answered(alloc, "run", script)
-}
+/// The words of a run, its input, and how many bytes a read or a write moves at most.
+pub(crate) type Given<'a> = (&'a str, &'a [u8], usize);
 
-/// The exit status that words end with without faults, and what was written.
-pub(crate) fn answered(alloc: Global, words: &str, input: &[u8]) -> Result<(u8, Vec<u8>), Fail> {
-    let outside = Outside {
-        words,
-        input,
-        most: 65_536,
-        failing_reads: &[],
-        failing_writes: &[],
-    };
-    let (status, wrote, _) = ended(alloc, &outside)?;
-    Ok((status, wrote))
-}
-
-/// What a run is given: its words, its input, and the numbers of the reads and writes that fail. Reads and writes move
-/// at most `most` bytes.
-#[derive(Drop)]
-pub(crate) struct Outside<'a> {
-    pub(crate) words: &'a str,
-    pub(crate) input: &'a [u8],
-    pub(crate) most: usize,
-    pub(crate) failing_reads: &'a [u64],
-    pub(crate) failing_writes: &'a [u64],
-}
-
-/// The exit status of a run, what it wrote, and how many bytes it left unread.
-pub(crate) fn ended(alloc: Global, outside: &Outside<'_>) -> Result<(u8, Vec<u8>, usize), Fail> {
+/// The exit status of a run, what it wrote, and how many bytes it left unread, where the reads and the writes of these numbers fail.
+pub(crate) fn ended(
+    alloc: Global,
+    given: Given<'_>,
+    reads: &[u64],
+    writes: &[u64],
+) -> Result<(u8, Vec<u8>, usize), Fail> {
+    let (text, input, most) = given;
     let mut words = Vec::new(alloc);
-    for word in outside.words.split_whitespace() {
+    for word in text.split_whitespace() {
         words.push(String::from_str(alloc, word)?)?;
     }
-    let most = outside.most.max(1);
-    let mut source = MemSource::new(
-        Vec::from_slice(alloc, outside.input)?,
-        most,
-        Vec::from_slice(alloc, outside.failing_reads)?,
-    );
-    let fail = Vec::from_slice(alloc, outside.failing_writes)?;
-    let mut sink = MemSink::new(alloc, 8192, most, fail).map_err(|_| Fail::from("memory"))?;
+    let most = most.max(1);
+    let reads = Vec::from_slice(alloc, reads)?;
+    let writes = Vec::from_slice(alloc, writes)?;
+    let mut source = MemSource::new(Vec::from_slice(alloc, input)?, most, reads);
+    let mut sink = MemSink::new(alloc, 8192, most, writes).map_err(|_| Fail::from("memory"))?;
     let status = dtt(alloc, &words, &mut source, &mut sink) as u8;
-    Ok((
-        status,
-        Vec::from_slice(alloc, sink.held())?,
-        source.left().len(),
-    ))
+    let wrote = Vec::from_slice(alloc, sink.held())?;
+    Ok((status, wrote, source.left().len()))
 }
 
 const FIRST: &[u8] = b"type v = hvector 2 1 8 MPI_INT\nbuffer b count 16\nbytes native 1 v b 0\n";
 
-const FIRST_TEXT: &[u8] = b"ok\nok\nbytes 8 0001020308090a0b\n";
+const OLD: &[u8] =
+    b"dtcert 1\nweights 1 3 2 1 2 2\nmap 3\nentry MPI_INT 0\nentry MPI_INT 8\nentry MPI_INT 16\n";
 
-const NEGATIVE: &[u8] =
-    b"type w = hvector 2 1 -4 MPI_INT\nbuffer b count 16\nbytes native 1 w b 4\n\
-bytes native 1 w b 0\ntype x = hvector 65 1 8\n";
+const CERTIFICATE: &[u8] =
+    b"dtcert 3\nweights 1 3 2 1 2 2\nmap 3\nentry MPI_INT 0\nentry MPI_INT 8\nentry MPI_INT 16\nbase 0\n\
+tree vector 3 1 8 leaf MPI_INT\ncost 4\nclass 0 1 1\nclass 0 2 4\nclass 0 3 4\nend\n";
 
-const NEGATIVE_TEXT: &[u8] =
-    b"ok\nok\nbytes 8 0405060700010203\nrefused 15 outside\nrefused 1 syntax\n";
+/// Words, an input, and the status and the text that they end with where nothing fails.
+type Answer = (&'static str, &'static [u8], u8, &'static [u8]);
+
+const ANSWERS: [Answer; 8] = [
+    ("run", FIRST, 0, b"ok\nok\nbytes 8 0001020308090a0b\n"),
+    (
+        "certify a",
+        b"type a = hindexed_block MPI_INT 1 0 8 16\n",
+        0,
+        CERTIFICATE,
+    ),
+    ("check", CERTIFICATE, 0, b"least 4\n"),
+    ("migrate", OLD, 0, CERTIFICATE),
+    ("run", b"", 0, b""),
+    // No line feed at the end.
+    ("run", b"buffer b hex 00\nshow b", 0, b"ok\nshow 1 00\n"),
+    // Any bytes in comments, and one carriage return before a line feed and at the end.
+    (
+        "run",
+        b"\r\n \t\n# \xff\x00\x80\x01\x7f\n\t#\xc3\xa9\r\nbuffer b count 4\r\nbytes native 1 MPI_INT b 0\r",
+        0,
+        b"ok\nbytes 4 00010203\n",
+    ),
+    // Another byte outside a comment, a second carriage return, and bytes that are blank elsewhere.
+    (
+        "run",
+        b"info MPI_INT\x00\nshow \xc3\xa9\ninfo MPI_INT\r\r\n\x0binfo MPI_INT\ninfo\x0cMPI_INT\nx\x7f#\n",
+        1,
+        b"refused 1 syntax\nrefused 1 syntax\nrefused 1 syntax\nrefused 1 syntax\nrefused 1 syntax\nrefused 1 syntax\n",
+    ),
+];
+
+/// Whether a run ends so, with nothing unread, whatever the pieces are that the source gives and the sink takes.
+fn is_answered(alloc: Global, answer: &Answer) -> Result<bool, Fail> {
+    let (words, input, wanted, text) = *answer;
+    let mut all = true;
+    for most in [1, 7, 4096] {
+        let (status, wrote, left) = ended(alloc, (words, input, most), &[], &[])?;
+        all &= status == wanted && wrote.as_slice() == text && left == 0;
+    }
+    Ok(all)
+}
 
 #[test]
-fn answers(rt: HostRuntime) -> Result<(), Fail> {
-    let alloc = rt.alloc();
-    let rows: [(&[u8], u8, &[u8]); 6] = [
-        (b"", 0, b""),
-        (FIRST, 0, FIRST_TEXT),
-        (NEGATIVE, 1, NEGATIVE_TEXT),
-        // Two blocks of two integers each, 12 bytes apart, and two copies of them, one extent of 20 bytes apart.
-        (
-            b"type v = hvector 2 2 12 MPI_INT\nbuffer b count 40\nbytes native 2 v b 0",
-            0,
-            b"ok\nok\nbytes 32 00010203040506070c0d0e0f10111213\
-1415161718191a1b2021222324252627\n",
-        ),
-        // Blank lines, comments, a carriage return before a line feed and at the end, and names that are taken.
-        (
-            b"\r\n \t\n# \xff\n\t#x\nbuffer b count 4\r\nbuffer b count 4\ntype MPI_X = hvector 1 1 0 MPI_INT\n\
-bytes native 1 MPI_INT b 0\r",
-            1,
-            b"ok\nrefused 3 name taken\nrefused 3 name taken\nbytes 4 00010203\n",
-        ),
-        // No copies lie anywhere, unknown names are told before what lies outside, and types and buffers have names apart.
-        (
-            b"buffer b count 0\nbytes native 0 MPI_INT b -9223372036854775808\nbytes native 1 b b 0\n\
-bytes native 1 MPI_INT c 0\nbytes external 1 MPI_BYTE b 0\nbytes native 1 MPI_INT b 0\n",
-            1,
-            b"ok\nbytes 0 -\nrefused 2 unknown name\nrefused 2 unknown name\nrefused 1 syntax\nrefused 15 outside\n",
-        ),
-    ];
-    for (input, status, text) in rows {
-        for most in [1, 7, 4096] {
-            let outside = Outside {
-                words: "run",
-                input,
-                most,
-                failing_reads: &[],
-                failing_writes: &[],
-            };
-            let (was, wrote, left) = ended(alloc, &outside)?;
-            assert_eq!(rt; was, status);
-            assert_eq!(rt; wrote.as_slice(), text);
-            assert_eq!(rt; left, 0);
+fn answers_in_pieces(rt: HostRuntime) -> Result<(), Fail> {
+    for answer in &ANSWERS {
+        assert!(rt; is_answered(rt.alloc(), answer)?, "{}", answer.0);
+    }
+    Ok(())
+}
+
+/// The number of the first read that fails and isn't told: reads of 16 bytes, and one that finds the end.
+fn untold_read(alloc: Global, answer: &Answer) -> Result<Option<usize>, Fail> {
+    let (words, input, ..) = *answer;
+    for number in 0..input.len().div_ceil(16) + 1 {
+        let (status, wrote, _) = ended(alloc, (words, input, 16), &[number as u64], &[])?;
+        if status != 3 || !wrote.is_empty() {
+            return Ok(Some(number));
         }
     }
-    Ok(())
+    Ok(None)
+}
+
+/// The number of the first write of 3 bytes that fails and isn't told, or leaves more or less than what was written before it.
+fn untold_write(alloc: Global, answer: &Answer) -> Result<Option<usize>, Fail> {
+    let (words, input, _, text) = *answer;
+    for number in 0..text.len().div_ceil(3) {
+        let (status, wrote, _) = ended(alloc, (words, input, 3), &[], &[number as u64])?;
+        if status != 4 || wrote.as_slice() != &text[..3 * number] {
+            return Ok(Some(number));
+        }
+    }
+    Ok(None)
 }
 
 #[test]
-fn faults(rt: HostRuntime) -> Result<(), Fail> {
-    let alloc = rt.alloc();
-    // 70 bytes by tens and the end: eight reads, of which each fails in turn.
-    for number in 0..8u64 {
-        let outside = Outside {
-            words: "run",
-            input: FIRST,
-            most: 10,
-            failing_reads: &[number],
-            failing_writes: &[],
-        };
-        let (status, wrote, _) = ended(alloc, &outside)?;
-        assert_eq!(rt; status, 3, "read {number}");
-        assert!(rt; wrote.is_empty());
-    }
-    // 31 bytes of replies by fours, three lines of 3, 3 and 25 bytes: one, one and seven writes, of which each fails in turn.
-    let written = [0, 3, 6, 10, 14, 18, 22, 26, 30];
-    for (number, len) in written.into_iter().enumerate() {
-        let outside = Outside {
-            words: "run",
-            input: FIRST,
-            most: 4,
-            failing_reads: &[],
-            failing_writes: &[number as u64],
-        };
-        let (status, wrote, _) = ended(alloc, &outside)?;
-        assert_eq!(rt; status, 4, "write {number}");
-        assert_eq!(rt; wrote.len(), len);
-        assert!(rt; FIRST_TEXT.starts_with(wrote.as_slice()));
+fn each_fault_is_told(rt: HostRuntime) -> Result<(), Fail> {
+    for answer in ANSWERS.iter().take(5) {
+        let read = untold_read(rt.alloc(), answer)?;
+        assert!(rt; read.is_none(), "{}: {read:?}", answer.0);
+        let write = untold_write(rt.alloc(), answer)?;
+        assert!(rt; write.is_none(), "{}: {write:?}", answer.0);
     }
     Ok(())
 }
 
-/// Words of none of the forms: nothing is read or written.
-#[test]
-fn other_words(rt: HostRuntime) -> Result<(), Fail> {
-    let alloc = rt.alloc();
-    let rows = [
-        "",
-        "run x",
-        "runs",
-        "Run",
-        "check x",
-        "migrate x",
-        "x",
-        "certify",
-        "certify a b",
-        "certify 1a",
-        "certify a-b",
-        "certify abcdefghijklmnopqrstuvwxyz0123456",
-        "gen",
-        "gen 1 2",
-        "gen 01",
-        "gen 00",
-        "gen +1",
-        "gen -1",
-        "gen 1x",
-        "gen 4294967296",
-        "gen 18446744073709551617",
-    ];
-    for words in rows {
-        let outside = Outside {
-            words,
-            input: FIRST,
-            most: 10,
-            failing_reads: &[0],
-            failing_writes: &[0],
-        };
-        let (status, wrote, left) = ended(alloc, &outside)?;
-        assert_eq!(rt; status, 2, "words {words}");
-        assert!(rt; wrote.is_empty());
-        assert_eq!(rt; left, FIRST.len());
-    }
-    Ok(())
-}
+/// Words, and the status that they end with where each read would fail and the first write does. The last one isn't wrong.
+const UNREAD: [(&str, u8); 8] = [
+    ("", 2),
+    ("x", 2),
+    ("runs", 2),
+    ("run x", 2),
+    ("gen 00", 2),
+    ("gen 1x", 2),
+    ("gen 18446744073709551617", 2),
+    ("gen 0", 4),
+];
 
 #[test]
-fn the_limit(rt: HostRuntime) -> Result<(), Fail> {
-    let alloc = rt.alloc();
-    for (len, status) in [(16_777_216, 0), (16_777_217, 6)] {
-        let input = vec![in alloc; 32u8; len]?;
-        let outside = Outside {
-            words: "run",
-            input: input.as_slice(),
-            most: 65_536,
-            failing_reads: &[],
-            failing_writes: &[],
-        };
-        let (was, wrote, left) = ended(alloc, &outside)?;
-        assert_eq!(rt; was, status);
-        assert!(rt; wrote.is_empty());
-        assert_eq!(rt; left, 0);
+fn nothing_is_read(rt: HostRuntime) -> Result<(), Fail> {
+    for (words, wanted) in UNREAD {
+        let (status, wrote, left) = ended(rt.alloc(), (words, FIRST, 16), &[0], &[0])?;
+        assert_eq!(rt; status, wanted, "{words}");
+        assert!(rt; wrote.is_empty() && left == FIRST.len(), "{words}");
     }
     Ok(())
 }

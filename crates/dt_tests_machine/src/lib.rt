@@ -1,5 +1,0 @@
-//! Tests of the machine's calls.
-#![tactic(auto)]
-
-#[cfg(test)]
-mod totals;
