@@ -1,0 +1,111 @@
+//! What no line of a script shows of sessions and plans.
+ghost use Rattle.std.specs.Prelude.{◌≤◌};
+
+use crate::types::type_of;
+use dt_copy::{CopyFault, CopyPlan};
+use dt_kinds::Rep;
+use dt_ops::{StoredOp, SumLaw, sum};
+use dt_pack::PackSession;
+use dt_reduce::ReducePlan;
+use std::alloc::Global;
+use std::test::Fail;
+
+/// The cursor of a pack session stands where its pieces end.
+#[test]
+fn the_cursor_is_the_sessions(rt: HostRuntime) -> Result<(), Fail> {
+    let alloc = rt.alloc();
+    let ty = type_of(alloc, "vector 2 1 2 MPI_INT")?;
+    let buffer = [0, 1, 2, 3, 4, 5, 6, 7, 8, 9, 10, 11, 12, 13, 14, 15];
+    let Ok(mut session) = PackSession::begin(alloc, &ty, 1, Rep::External32, 4, 16) else {
+        return Err(Fail::from("no session"));
+    };
+    let mut out = [0; 3];
+    assert!(rt; session.take(&buffer, &mut out) == 3 && out == [7, 6, 5]);
+    let cursor = session.cursor();
+    assert!(rt; cursor.position() == 3 && cursor.total() == 8 && cursor.rep() == Rep::External32);
+    Ok(())
+}
+
+/// Each run copies all elements, of the source as it is then.
+#[test]
+fn a_copy_is_run_again(rt: HostRuntime) -> Result<(), Fail> {
+    let alloc = rt.alloc();
+    let spread = type_of(alloc, "vector 2 1 2 MPI_SHORT")?;
+    let short = type_of(alloc, "MPI_SHORT")?;
+    let Ok(mut plan) = CopyPlan::begin(alloc, &spread, 1, 0, 6, &short, 2, 0, 4) else {
+        return Err(Fail::from("no plan"));
+    };
+    assert!(rt; plan.elements() == 2 && plan.bytes() == 4);
+    let mut target = [0xee; 4];
+    assert!(rt; plan.run(&[1, 2, 3, 4, 5, 6], &mut target) == 2 && target == [1, 2, 5, 6]);
+    assert!(rt; plan.run(&[7, 8, 9, 10, 11, 12], &mut target) == 2 && target == [7, 8, 11, 12]);
+    Ok(())
+}
+
+/// Each run joins all elements, of both buffers as they are then.
+#[test]
+fn a_reduction_is_run_again(rt: HostRuntime) -> Result<(), Fail> {
+    let alloc = rt.alloc();
+    let spread = type_of(alloc, "vector 2 1 2 MPI_BYTE")?;
+    let Ok(mut plan) = ReducePlan::begin(alloc, &spread, 1, 0, 3, 1, 4) else {
+        return Err(Fail::from("no plan"));
+    };
+    let op = StoredOp::<SumLaw, _>::new(sum);
+    let mut target = [9, 10, 11, 12];
+    assert!(rt; plan.run(&op, &[1, 2, 3], &mut target) == 2 && target == [9, 11, 11, 15]);
+    assert!(rt; plan.run(&op, &[4, 5, 6], &mut target) == 2 && target == [9, 15, 11, 21]);
+    Ok(())
+}
+
+/// The first element whose kind differs, of so many copies of two types in buffers of 16 bytes; `None` where there is a plan, or another
+/// reason for none.
+fn difference(
+    alloc: Global,
+    source: (&str, u32),
+    target: (&str, u32),
+) -> Result<Option<u64>, Fail> {
+    let from = type_of(alloc, source.0)?;
+    let to = type_of(alloc, target.0)?;
+    match CopyPlan::begin(alloc, &from, source.1, 0, 16, &to, target.1, 0, 16) {
+        Err(CopyFault::Differs { at }) => Ok(Some(at)),
+        _ => Ok(None),
+    }
+}
+
+/// Copies of a type, such of another one, and the first element whose kind differs.
+type Row = ((&'static str, u32), (&'static str, u32), Option<u64>);
+
+/// Kinds of one size, or not, that differ at the first element, or at the last alone, also in the second copy.
+const DIFFERENCES: [Row; 6] = [
+    (("MPI_INT", 2), ("MPI_UNSIGNED", 2), Some(0)),
+    (("MPI_INT", 2), ("MPI_BYTE", 8), Some(0)),
+    (
+        ("struct 2@0@MPI_INT 1@8@MPI_SHORT", 1),
+        ("struct 2@0@MPI_INT 1@8@MPI_UNSIGNED_SHORT", 1),
+        Some(2),
+    ),
+    (
+        ("MPI_INT", 3),
+        ("struct 2@0@MPI_INT 1@8@MPI_SHORT", 1),
+        Some(2),
+    ),
+    (
+        ("struct 1@0@MPI_INT 1@4@MPI_SHORT", 2),
+        ("struct 2@0@MPI_SHORT", 2),
+        Some(0),
+    ),
+    (
+        ("MPI_INT", 2),
+        ("struct 2@0@MPI_INT 1@8@MPI_SHORT", 1),
+        None,
+    ),
+];
+
+#[test]
+fn the_first_difference(rt: HostRuntime) -> Result<(), Fail> {
+    for (source, target, expected) in DIFFERENCES {
+        let at = difference(rt.alloc(), source, target)?;
+        assert!(rt; at == expected, "{source:?} {target:?}");
+    }
+    Ok(())
+}
