@@ -1,10 +1,16 @@
-//! All ways of cutting the packed bytes of programs into runs and rows, compared with the plain list of elements.
-ghost use Rattle.std.specs.Prelude.{◌<◌};
+//! Packed bytes of programs, found one by one, and cut in all ways into runs and rows, compared with the plain list of elements.
+ghost use Rattle.std.specs.Prelude.{pos, ◌<◌};
+ghost use Rattle.dt_layout.specs.Program.{StandsFor};
+ghost use Rattle.dt_map.specs.Elements.{elements};
+ghost use Rattle.dt_type.specs.Datatype.{typemap_of};
 
 use crate::programs::program_of;
 use crate::types::type_of;
-use dt_cursor::{Cursor, Rows, Run};
+use dt_cursor::{Cursor, Frames, Rows, Run, find, here};
+use dt_elems::packed_size;
 use dt_kinds::{Kind, Rep};
+use dt_layout::{CountedCode, Program};
+use dt_map::Entry;
 use dt_type::Datatype;
 use std::alloc::Global;
 use std::rc::Rc;
@@ -12,8 +18,8 @@ use std::test::Fail;
 
 /// So many copies of types: adjacent elements whose images are shorter, blocks downwards and blocks with gaps; parts of arrays; places
 /// with empty blocks before, between and after the others; parts of parts, of which one is empty; no elements; the deepest types.
-pub(crate) const SHAPES: [(&str, u32); 14] = [
-    ("MPI_LONG", 3),
+const SHAPES: [(&str, u32); 14] = [
+    ("dup MPI_LONG", 3),
     ("contiguous 3 MPI_LONG", 2),
     ("hvector 3 2 -20 MPI_LONG", 3),
     ("vector 4 3 5 MPI_SHORT", 3),
@@ -23,14 +29,14 @@ pub(crate) const SHAPES: [(&str, u32); 14] = [
     ("hindexed MPI_UNSIGNED 0@0 2@-80 0@0 3@-120 0@0", 2),
     ("hindexed gap 0@0 2@-80 0@0 3@-120 0@0", 2),
     ("resized 0 40 large", 3),
-    ("nothing", 4),
-    ("MPI_INT", 0),
-    ("spots", 1),
-    ("tail", 1),
+    ("dup nothing", 4),
+    ("dup MPI_INT", 0),
+    ("hindexed spots 1@0 0@8", 1),
+    ("struct 1@1@tails 1@0@MPI_BYTE", 1),
 ];
 
 /// The bytes of an element's image.
-pub(crate) fn image_size(kind: Kind, rep: Rep) -> i64 {
+fn image_size(kind: Kind, rep: Rep) -> i64 {
     match rep {
         Rep::Native => i64::from(kind.size()),
         Rep::External32 => i64::from(kind.ext_size()),
@@ -57,12 +63,11 @@ fn plain(alloc: Global, ty: &Datatype, count: u32, rep: Rep) -> Result<Vec<i64>,
     for copy in 0..count {
         let origin = i64::from(copy).saturating_mul(extent);
         for k in 0..ty.bounds().elements {
-            let Some(entry) = ty.entry_at(k) else {
+            let Some(Entry { kind, disp }) = ty.entry_at(k) else {
                 return Err(Fail::from("no entry"));
             };
-            let disp = origin.saturating_add(entry.disp);
-            for byte in 0..image_size(entry.kind, rep) {
-                places.push(place_of(entry.kind, rep, disp, byte))?;
+            for byte in 0..image_size(kind, rep) {
+                places.push(place_of(kind, rep, origin.saturating_add(disp), byte))?;
             }
         }
     }
@@ -186,7 +191,7 @@ const FIRST_ROWS: [(&str, u32, usize, &str); 5] = [
     ("vector 3 2 4 MPI_INT", 1, 23, "0 2 2 16"),
     ("vector 3 2 4 MPI_INT", 1, 7, "0 1 1 0"),
     ("vector 5 1 2 MPI_INT", 1, 1000, "0 1 5 8"),
-    ("MPI_INT", 6, 1000, "0 6 1 0"),
+    ("dup MPI_INT", 6, 1000, "0 6 1 0"),
 ];
 
 #[test]
@@ -195,5 +200,58 @@ fn blocks_are_rows(rt: HostRuntime) -> Result<(), Fail> {
         let rows = first_rows(rt.alloc(), words, count, most.max(1))?;
         assert!(rt; rows.as_str() == expected, "{words}: {rows}");
     }
+    Ok(())
+}
+
+/// The place of a packed byte, found in the program of an operation; `None` at the end.
+fn place_found(program: &Program, ty: &Datatype, count: u32, rep: Rep, byte: u64) -> Option<i64>
+    requires { StandsFor program.now (elements (typemap_of ty.now) count (pos 0)) }
+{
+    if u128::from(byte) > packed_size(ty, rep, count) {
+        return None;
+    }
+    let mut code = CountedCode::new(program);
+    let mut frames = Frames::new();
+    let held = find(&mut code, rep, byte, &mut frames);
+    let entry = here(program, &frames)?;
+    Some(place_of(entry.kind, rep, entry.disp, i64::from(held)))
+}
+
+/// Whether each byte of an operation is found in turn, and then the end.
+fn is_found(alloc: Global, ty: &Datatype, count: u32, rep: Rep) -> Result<bool, Fail> {
+    let program = program_of(alloc, ty, count)?;
+    let expected = plain(alloc, ty, count, rep)?;
+    let mut all = true;
+    for byte in 0..=expected.len() {
+        let place = place_found(&program, ty, count, rep, byte as u64);
+        all &= place == expected.get(byte).copied();
+    }
+    Ok(all)
+}
+
+#[test]
+fn every_byte_is_found(rt: HostRuntime) -> Result<(), Fail> {
+    for (words, count) in SHAPES {
+        let ty = type_of(rt.alloc(), words)?;
+        assert!(rt;
+            is_found(rt.alloc(), &ty, count, Rep::Native)?,
+            "native {words}"
+        );
+        assert!(rt;
+            is_found(rt.alloc(), &ty, count, Rep::External32)?,
+            "external32 {words}"
+        );
+    }
+    Ok(())
+}
+
+/// The innermost byte: a frame for the two copies, two for each of 63 levels (its parts, and the one that is run), and the element's.
+#[test]
+fn the_most_frames(rt: HostRuntime) -> Result<(), Fail> {
+    let deep = type_of(rt.alloc(), "struct 1@1@tails 1@0@MPI_BYTE")?;
+    let program = program_of(rt.alloc(), &deep, 2)?;
+    let mut frames = Frames::new();
+    find(&mut CountedCode::new(&program), Rep::Native, 0, &mut frames);
+    assert!(rt; frames.len() == 128, "{}", frames.len());
     Ok(())
 }

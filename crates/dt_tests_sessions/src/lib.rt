@@ -5,8 +5,6 @@
 #[cfg(test)]
 mod cursors;
 #[cfg(test)]
-mod finding;
-#[cfg(test)]
 mod plans;
 #[cfg(test)]
 mod programs;

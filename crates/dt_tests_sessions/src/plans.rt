@@ -31,7 +31,7 @@ fn the_cursor_is_the_sessions(rt: HostRuntime) -> Result<(), Fail> {
 fn a_copy_is_run_again(rt: HostRuntime) -> Result<(), Fail> {
     let alloc = rt.alloc();
     let spread = type_of(alloc, "vector 2 1 2 MPI_SHORT")?;
-    let short = type_of(alloc, "MPI_SHORT")?;
+    let short = type_of(alloc, "dup MPI_SHORT")?;
     let Ok(mut plan) = CopyPlan::begin(alloc, &spread, 1, 0, 6, &short, 2, 0, 4) else {
         return Err(Fail::from("no plan"));
     };
@@ -59,53 +59,40 @@ fn a_reduction_is_run_again(rt: HostRuntime) -> Result<(), Fail> {
 
 /// The first element whose kind differs, of so many copies of two types in buffers of 16 bytes; `None` where there is a plan, or another
 /// reason for none.
-fn difference(
-    alloc: Global,
-    source: (&str, u32),
-    target: (&str, u32),
-) -> Result<Option<u64>, Fail> {
-    let from = type_of(alloc, source.0)?;
-    let to = type_of(alloc, target.0)?;
-    match CopyPlan::begin(alloc, &from, source.1, 0, 16, &to, target.1, 0, 16) {
+fn difference(alloc: Global, source: &str, count: u32, target: &str) -> Result<Option<u64>, Fail> {
+    let from = type_of(alloc, source)?;
+    let to = type_of(alloc, target)?;
+    match CopyPlan::begin(alloc, &from, count, 0, 16, &to, 1, 0, 16) {
         Err(CopyFault::Differs { at }) => Ok(Some(at)),
         _ => Ok(None),
     }
 }
 
-/// Copies of a type, such of another one, and the first element whose kind differs.
-type Row = ((&'static str, u32), (&'static str, u32), Option<u64>);
-
-/// Kinds of one size, or not, that differ at the first element, or at the last alone, also in the second copy.
-const DIFFERENCES: [Row; 6] = [
-    (("MPI_INT", 2), ("MPI_UNSIGNED", 2), Some(0)),
-    (("MPI_INT", 2), ("MPI_BYTE", 8), Some(0)),
+/// So many copies of a type, another type, and the first element whose kind differs: the first of all, or the last alone, also in the last
+/// copy.
+const DIFFERENCES: [(&str, u32, &str, Option<u64>); 5] = [
+    ("dup MPI_INT", 2, "contiguous 2 MPI_UNSIGNED", Some(0)),
+    ("dup MPI_INT", 2, "contiguous 8 MPI_BYTE", Some(0)),
     (
-        ("struct 2@0@MPI_INT 1@8@MPI_SHORT", 1),
-        ("struct 2@0@MPI_INT 1@8@MPI_UNSIGNED_SHORT", 1),
+        "dup MPI_INT",
+        3,
+        "struct 2@0@MPI_INT 1@8@MPI_SHORT",
         Some(2),
     ),
+    ("dup small", 2, "struct 1@0@small 1@8@small", None),
     (
-        ("MPI_INT", 3),
-        ("struct 2@0@MPI_INT 1@8@MPI_SHORT", 1),
-        Some(2),
-    ),
-    (
-        ("struct 1@0@MPI_INT 1@4@MPI_SHORT", 2),
-        ("struct 2@0@MPI_SHORT", 2),
-        Some(0),
-    ),
-    (
-        ("MPI_INT", 2),
-        ("struct 2@0@MPI_INT 1@8@MPI_SHORT", 1),
-        None,
+        "dup small",
+        2,
+        "struct 1@0@small 1@8@MPI_UNSIGNED 3@12@MPI_BYTE",
+        Some(4),
     ),
 ];
 
 #[test]
 fn the_first_difference(rt: HostRuntime) -> Result<(), Fail> {
-    for (source, target, expected) in DIFFERENCES {
-        let at = difference(rt.alloc(), source, target)?;
-        assert!(rt; at == expected, "{source:?} {target:?}");
+    for (source, count, target, expected) in DIFFERENCES {
+        let at = difference(rt.alloc(), source, count, target)?;
+        assert!(rt; at == expected, "{source} {target}");
     }
     Ok(())
 }

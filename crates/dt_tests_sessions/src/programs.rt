@@ -8,7 +8,7 @@ use crate::types::type_of;
 use dt_elems::{packed_size, span_inside};
 use dt_kinds::Rep;
 use dt_layout::{Code, CountedCode, Instr, Program, compile};
-use dt_type::{Datatype, Turns};
+use dt_type::Datatype;
 use std::alloc::Global;
 use std::test::Fail;
 
@@ -34,40 +34,24 @@ pub(crate) fn program_of(alloc: Global, ty: &Datatype, count: u32) -> Result<Pro
     Ok(compile(alloc, ty, count)?)
 }
 
-/// First, count, block, jump and step of turns.
-fn turns_text(alloc: Global, turns: &Turns) -> Result<String, Fail> {
-    let Turns {
-        first,
-        count,
-        block,
-        jump,
-        step,
-    } = *turns;
-    Ok(format!(in alloc; "{first} {count} {block} {jump} {step}")?)
-}
-
-/// An instruction in one line: its numbers in the order of their declaration.
+/// An instruction: its numbers in the order of their declaration.
 fn instruction_text(alloc: Global, instr: Instr) -> Result<String, Fail> {
     Ok(match instr {
-        Instr::One(kind) => format!(in alloc; "one {}\n", kind.name())?,
+        Instr::One(kind) => format!(in alloc; "{};", kind.name())?,
         Instr::Loop { turns, sizes, next } => {
-            let turns = turns_text(alloc, &turns)?;
-            format!(in alloc;
-                "loop {turns} sizes {} {} next {next}\n",
-                sizes.native, sizes.ext
-            )?
+            let t = turns;
+            let steps = format!(in alloc; "{} {} {}", t.block, t.jump, t.step)?;
+            let of = format!(in alloc; "{} {}", sizes.native, sizes.ext)?;
+            format!(in alloc; "loop {} {} {steps} of {of} to {next};", t.first, t.count)?
         }
         Instr::Each { spots, sizes, next } => {
-            format!(in alloc;
-                "each {spots} sizes {} {} next {next}\n",
-                sizes.native, sizes.ext
-            )?
+            format!(in alloc; "each {spots} of {} {} to {next};", sizes.native, sizes.ext)?
         }
         Instr::Spot(spot) => {
-            format!(in alloc; "spot {} {} {}\n", spot.first, spot.copies, spot.step)?
+            format!(in alloc; "spot {} {} {};", spot.first, spot.copies, spot.step)?
         }
-        Instr::Seq { parts, next } => format!(in alloc; "seq {parts} next {next}\n")?,
-        Instr::End => format!(in alloc; "end\n")?,
+        Instr::Seq { parts, next } => format!(in alloc; "seq {parts} to {next};")?,
+        Instr::End => format!(in alloc; "end;")?,
     })
 }
 
@@ -81,161 +65,56 @@ fn text_of(alloc: Global, words: &str, count: u32) -> Result<String, Fail> {
     Ok(text)
 }
 
-/// So many copies of a type, and their program.
-type Row = (&'static str, u32, &'static str);
-
-/// Copies without gaps; one copy, and copies of one element; even steps, both ways; one row of copies; blocks, blocks whose turns are two
-/// bytes each, and copies that follow as their blocks do; two steps; what is dealt out in twos to two processes.
-const ONE_LOOP: [Row; 20] = [
-    (
-        "MPI_BYTE",
-        16_777_216,
-        "loop 0 16777216 16777216 0 1 sizes 1 1 next 3\none MPI_BYTE\nend\n",
-    ),
-    (
-        "three",
-        2,
-        "loop 0 6 6 0 4 sizes 4 4 next 3\none MPI_INT\nend\n",
-    ),
-    (
-        "contiguous 5 three",
-        7,
-        "loop 0 105 105 0 4 sizes 4 4 next 3\none MPI_INT\nend\n",
-    ),
-    ("MPI_INT", 1, "one MPI_INT\n"),
-    ("dup MPI_INT", 1, "one MPI_INT\n"),
-    (
-        "resized 0 8 MPI_INT",
-        3,
-        "loop 0 3 3 0 8 sizes 4 4 next 3\none MPI_INT\nend\n",
-    ),
-    (
-        "vector 2 1 2 MPI_INT",
-        1,
-        "loop 0 2 2 0 8 sizes 4 4 next 3\none MPI_INT\nend\n",
-    ),
-    (
-        "vector 2 3 3 MPI_INT",
-        1,
-        "loop 0 6 6 0 4 sizes 4 4 next 3\none MPI_INT\nend\n",
-    ),
-    (
-        "hvector 2 1 -8 MPI_LONG",
-        1,
-        "loop 0 2 2 0 -8 sizes 8 4 next 3\none MPI_LONG\nend\n",
-    ),
-    (
-        "hvector 2 1 -12 down",
-        1,
-        "loop 0 6 6 0 -4 sizes 4 4 next 3\none MPI_INT\nend\n",
-    ),
-    (
-        "hindexed MPI_SHORT 3@8",
-        1,
-        "loop 8 3 3 0 2 sizes 2 2 next 3\none MPI_SHORT\nend\n",
-    ),
-    (
-        "struct 3@8@MPI_SHORT",
-        1,
-        "loop 8 3 3 0 2 sizes 2 2 next 3\none MPI_SHORT\nend\n",
-    ),
-    (
-        "subarray c MPI_INT 4:4:0 4:1:1",
-        1,
-        "loop 4 4 4 0 16 sizes 4 4 next 3\none MPI_INT\nend\n",
-    ),
-    (
-        "subarray c MPI_BYTE 3:2:1 4:4:0",
-        1,
-        "loop 4 8 8 0 1 sizes 1 1 next 3\none MPI_BYTE\nend\n",
-    ),
-    (
-        "vector 2 3 4 MPI_INT",
-        1,
-        "loop 0 6 3 16 4 sizes 4 4 next 3\none MPI_INT\nend\n",
-    ),
-    (
-        "vector 2 2 3 two",
-        1,
-        "loop 0 8 4 6 1 sizes 1 1 next 3\none MPI_BYTE\nend\n",
-    ),
-    (
-        "resized 0 8 blocks",
-        3,
-        "loop 0 12 2 4 1 sizes 1 1 next 3\none MPI_BYTE\nend\n",
-    ),
-    (
-        "resized 0 13 three",
-        2,
-        "loop 0 6 3 13 4 sizes 4 4 next 3\none MPI_INT\nend\n",
-    ),
-    (
-        "subarray c MPI_BYTE 3:2:0 4:2:1",
-        1,
-        "loop 1 4 2 4 1 sizes 1 1 next 3\none MPI_BYTE\nend\n",
-    ),
-    (
-        "darray 2 0 c MPI_BYTE 7:cyclic:2:2",
-        1,
-        "loop 0 4 2 4 1 sizes 1 1 next 3\none MPI_BYTE\nend\n",
-    ),
+/// So many copies of a type, and their program. Copies without gaps; one copy, and copies of one element; even steps, both ways; one row
+/// of copies; blocks, blocks whose turns are two bytes each, and copies that follow as their blocks do; two steps; what is dealt out in
+/// twos to two processes; a loop in a loop; spots, which stay as they are; parts, whose copies go on where those inside end; what has no
+/// elements.
+const PROGRAMS: [&str; 30] = [
+    "16777216 dup MPI_BYTE = loop 0 16777216 16777216 0 1 of 1 1 to 3;MPI_BYTE;end;",
+    "2 dup three = loop 0 6 6 0 4 of 4 4 to 3;MPI_INT;end;",
+    "7 contiguous 5 three = loop 0 105 105 0 4 of 4 4 to 3;MPI_INT;end;",
+    "1 dup MPI_INT = MPI_INT;",
+    "3 resized 0 8 MPI_INT = loop 0 3 3 0 8 of 4 4 to 3;MPI_INT;end;",
+    "1 vector 2 1 2 MPI_INT = loop 0 2 2 0 8 of 4 4 to 3;MPI_INT;end;",
+    "1 vector 2 3 3 MPI_INT = loop 0 6 6 0 4 of 4 4 to 3;MPI_INT;end;",
+    "1 hvector 2 1 -8 MPI_LONG = loop 0 2 2 0 -8 of 8 4 to 3;MPI_LONG;end;",
+    "1 hvector 2 1 -12 down = loop 0 6 6 0 -4 of 4 4 to 3;MPI_INT;end;",
+    "1 hindexed MPI_SHORT 3@8 = loop 8 3 3 0 2 of 2 2 to 3;MPI_SHORT;end;",
+    "1 struct 3@8@MPI_SHORT = loop 8 3 3 0 2 of 2 2 to 3;MPI_SHORT;end;",
+    "1 subarray c MPI_INT 4:4:0 4:1:1 = loop 4 4 4 0 16 of 4 4 to 3;MPI_INT;end;",
+    "1 subarray c MPI_BYTE 3:2:1 4:4:0 = loop 4 8 8 0 1 of 1 1 to 3;MPI_BYTE;end;",
+    "1 vector 2 3 4 MPI_INT = loop 0 6 3 16 4 of 4 4 to 3;MPI_INT;end;",
+    "1 vector 2 2 3 two = loop 0 8 4 6 1 of 1 1 to 3;MPI_BYTE;end;",
+    "3 resized 0 8 blocks = loop 0 12 2 4 1 of 1 1 to 3;MPI_BYTE;end;",
+    "2 resized 0 13 three = loop 0 6 3 13 4 of 4 4 to 3;MPI_INT;end;",
+    "1 subarray c MPI_BYTE 3:2:0 4:2:1 = loop 1 4 2 4 1 of 1 1 to 3;MPI_BYTE;end;",
+    "1 darray 2 0 c MPI_BYTE 7:cyclic:2:2 = loop 0 4 2 4 1 of 1 1 to 3;MPI_BYTE;end;",
+    "1 subarray c MPI_BYTE 3:2:0 3:2:0 3:2:0 = loop 0 2 2 0 9 of 4 4 to 5;loop 0 4 2 3 1 of 1 1 to 4;MPI_BYTE;end;end;",
+    "1 indexed MPI_INT 2@0 1@5 = each 2 of 4 4 to 5;spot 0 2 4;spot 20 1 4;MPI_INT;end;",
+    "2 indexed_block MPI_INT 1 3 0 = loop 0 2 2 0 16 of 8 8 to 7;each 2 of 4 4 to 6;spot 12 1 4;spot 0 1 4;MPI_INT;end;end;",
+    "1 hindexed_block MPI_LONG 2 -16 8 = each 2 of 8 4 to 5;spot -16 2 8;spot 8 2 8;MPI_LONG;end;",
+    "1 struct 1@0@MPI_INT 1@4@MPI_BYTE = seq 2 to 8;loop 0 1 1 0 4 of 4 4 to 4;MPI_INT;end;loop 4 1 1 0 1 of 1 1 to 7;MPI_BYTE;end;end;",
+    "1 struct 2@10@shorts 1@0@MPI_LONG = seq 2 to 8;loop 10 6 6 0 2 of 2 2 to 4;MPI_SHORT;end;loop 0 1 1 0 8 of 8 4 to 7;MPI_LONG;end;end;",
+    "1 struct 1@0@MPI_INT 2@4@MPI_BYTE 1@0@nothing 0@8@MPI_INT = seq 2 to 8;loop 0 1 1 0 4 of 4 4 to 4;MPI_INT;end;loop 4 2 2 0 1 of 1 1 to 7;MPI_BYTE;end;end;",
+    "0 dup MPI_INT = seq 0 to 2;end;",
+    "5 dup nothing = seq 0 to 2;end;",
+    "4 vector 3 2 4 nothing = seq 0 to 2;end;",
+    "4 hindexed_block nothing 2 0 7 = seq 0 to 2;end;",
 ];
 
-/// A loop in a loop; spots, which stay as they are; parts, whose copies go on where those inside end; what has no elements.
-const OTHERS: [Row; 11] = [
-    (
-        "subarray c MPI_BYTE 3:2:0 3:2:0 3:2:0",
-        1,
-        "loop 0 2 2 0 9 sizes 4 4 next 5\nloop 0 4 2 3 1 sizes 1 1 next 4\none MPI_BYTE\nend\nend\n",
-    ),
-    (
-        "indexed MPI_INT 2@0 1@5",
-        1,
-        "each 2 sizes 4 4 next 5\nspot 0 2 4\nspot 20 1 4\none MPI_INT\nend\n",
-    ),
-    (
-        "indexed_block MPI_INT 1 3 0",
-        2,
-        "loop 0 2 2 0 16 sizes 8 8 next 7\neach 2 sizes 4 4 next 6\nspot 12 1 4\nspot 0 1 4\none MPI_INT\nend\nend\n",
-    ),
-    (
-        "hindexed_block MPI_LONG 2 -16 8",
-        1,
-        "each 2 sizes 8 4 next 5\nspot -16 2 8\nspot 8 2 8\none MPI_LONG\nend\n",
-    ),
-    (
-        "struct 1@0@MPI_INT 1@4@MPI_BYTE",
-        1,
-        "seq 2 next 8\nloop 0 1 1 0 4 sizes 4 4 next 4\none MPI_INT\nend\nloop 4 1 1 0 1 sizes 1 1 next 7\none MPI_BYTE\nend\nend\n",
-    ),
-    (
-        "struct 2@10@shorts 1@0@MPI_LONG",
-        1,
-        "seq 2 next 8\nloop 10 6 6 0 2 sizes 2 2 next 4\none MPI_SHORT\nend\nloop 0 1 1 0 8 sizes 8 4 next 7\none MPI_LONG\nend\nend\n",
-    ),
-    (
-        "struct 1@0@MPI_INT 2@4@MPI_BYTE 1@0@nothing 0@8@MPI_INT",
-        1,
-        "seq 2 next 8\nloop 0 1 1 0 4 sizes 4 4 next 4\none MPI_INT\nend\nloop 4 2 2 0 1 sizes 1 1 next 7\none MPI_BYTE\nend\nend\n",
-    ),
-    ("MPI_INT", 0, "seq 0 next 2\nend\n"),
-    ("nothing", 5, "seq 0 next 2\nend\n"),
-    ("vector 3 2 4 nothing", 4, "seq 0 next 2\nend\n"),
-    ("hindexed_block nothing 2 0 7", 4, "seq 0 next 2\nend\n"),
-];
-
-#[test]
-fn shapes_that_are_one_loop(rt: HostRuntime) -> Result<(), Fail> {
-    for (words, count, expected) in ONE_LOOP {
-        let text = text_of(rt.alloc(), words, count)?;
-        assert!(rt; text.as_str() == expected, "{words}: {text}");
-    }
-    Ok(())
+/// The number, the words and the text of a row.
+fn row(line: &str) -> Option<(u32, &str, &str)> {
+    let (count, rest) = line.split_once(' ')?;
+    let (words, text) = rest.split_once('=')?;
+    Some((count.parse().ok()?, words.trim(), text.trim()))
 }
 
 #[test]
-fn other_shapes(rt: HostRuntime) -> Result<(), Fail> {
-    for (words, count, expected) in OTHERS {
+fn shapes_and_their_programs(rt: HostRuntime) -> Result<(), Fail> {
+    for line in PROGRAMS {
+        let Some((count, words, expected)) = row(line) else {
+            return Err(Fail::from(line));
+        };
         let text = text_of(rt.alloc(), words, count)?;
         assert!(rt; text.as_str() == expected, "{words}: {text}");
     }
@@ -245,7 +124,11 @@ fn other_shapes(rt: HostRuntime) -> Result<(), Fail> {
 /// Every level has its two spots, its head and its end.
 #[test]
 fn a_deep_program(rt: HostRuntime) -> Result<(), Fail> {
-    let program = program_of(rt.alloc(), &type_of(rt.alloc(), "spots")?, 1)?;
+    let program = program_of(
+        rt.alloc(),
+        &type_of(rt.alloc(), "hindexed spots 1@0 0@8")?,
+        1,
+    )?;
     let mut code = CountedCode::new(&program);
     let len = code.len();
     assert!(rt; len == 253, "{len}");

@@ -9,40 +9,28 @@ use dt_type::Datatype;
 use std::alloc::Global;
 use std::test::Fail;
 
-/// The merges of 1 to 17 rows by halves.
-const HALVES: [&[u32]; 17] = [
-    &[],
-    &[0],
-    &[0, 0],
-    &[0, 1, 0],
-    &[0, 1, 0, 0],
-    &[0, 1, 2, 0, 0],
-    &[0, 1, 2, 0, 1, 0],
-    &[0, 1, 2, 3, 0, 1, 0],
-    &[0, 1, 2, 3, 0, 1, 0, 0],
-    &[0, 1, 2, 3, 4, 0, 1, 0, 0],
-    &[0, 1, 2, 3, 4, 0, 1, 2, 0, 0],
-    &[0, 1, 2, 3, 4, 5, 0, 1, 2, 0, 0],
-    &[0, 1, 2, 3, 4, 5, 0, 1, 2, 0, 1, 0],
-    &[0, 1, 2, 3, 4, 5, 6, 0, 1, 2, 0, 1, 0],
-    &[0, 1, 2, 3, 4, 5, 6, 0, 1, 2, 3, 0, 1, 0],
-    &[0, 1, 2, 3, 4, 5, 6, 7, 0, 1, 2, 3, 0, 1, 0],
-    &[0, 1, 2, 3, 4, 5, 6, 7, 0, 1, 2, 3, 0, 1, 0, 0],
+/// So many rows, and their merges by halves.
+const HALVES: [(u32, &[u32]); 6] = [
+    (1, &[]),
+    (2, &[0]),
+    (3, &[0, 0]),
+    (5, &[0, 1, 0, 0]),
+    (11, &[0, 1, 2, 3, 4, 0, 1, 2, 0, 0]),
+    (16, &[0, 1, 2, 3, 4, 5, 6, 7, 0, 1, 2, 3, 0, 1, 0]),
 ];
 
 /// Whether these are the merges of so many rows, if there are 1 to 1,024.
-fn are_halves(alloc: Global, n: usize, want: &[u32]) -> Result<bool, Fail> {
+fn are_halves(alloc: Global, n: u32, want: &[u32]) -> Result<bool, Fail> {
     if n == 0 || n > 1024 {
         return Ok(false);
     }
-    let merges = halves(alloc, n as u32)?;
-    Ok(merges.as_slice() == want)
+    Ok(halves(alloc, n)?.as_slice() == want)
 }
 
 #[test]
 fn rows_by_halves(rt: HostRuntime) -> Result<(), Fail> {
-    for (i, want) in HALVES.iter().enumerate() {
-        assert!(rt; are_halves(rt.alloc(), i + 1, want)?, "{i}");
+    for (n, want) in HALVES {
+        assert!(rt; are_halves(rt.alloc(), n, want)?, "{n}");
     }
     let most = halves(rt.alloc(), 1024)?;
     assert!(rt; most.len() == 1023 && most.get(511) == Some(&511) && most.get(512) == Some(&0));
@@ -109,7 +97,7 @@ fn five<L: Law, F: Call + Drop>(alloc: Global, f: F, merges: &[u32]) -> Result<[
     requires takes_words { TakesWords (F.may f) }
     requires joins { Joins L.join (F.gives f) }
 {
-    let mut ranks = ranks_of(alloc, &type_of(alloc, "MPI_INT")?, 1, &FIVE)?;
+    let mut ranks = ranks_of(alloc, &type_of(alloc, "dup MPI_INT")?, 1, &FIVE)?;
     let mut into = [0; 4];
     reduced::<L, F>(alloc, f, &mut ranks, merges, 0, &mut into)?;
     Ok(into)
@@ -152,47 +140,33 @@ fn ranks_keep_their_words(rt: HostRuntime) -> Result<(), Fail> {
     Ok(())
 }
 
-/// Lists of merges for three ranks, and the place at which they show that they bracket none.
-const BAD: [(&[u32], usize); 7] = [
-    (&[2, 0], 0),
-    (&[0, 1], 1),
-    (&[1, 1], 1),
-    (&[0xffff_ffff, 0], 0),
-    (&[], 0),
-    (&[1], 1),
-    (&[1, 0, 0], 2),
-];
-
-#[test]
-fn merges_that_bracket_nothing(rt: HostRuntime) -> Result<(), Fail> {
-    let alloc = rt.alloc();
-    let mut ranks = ranks_of(alloc, &type_of(alloc, "MPI_INT")?, 1, &FIVE[..3])?;
-    let mut z = [7; 4];
-    for (merges, at) in BAD {
-        let refused = summed(alloc, &mut ranks, merges, 9, &mut z);
-        assert!(rt; refused == Err(AllFault::BadMerge { at }), "{merges:?}");
-    }
-    assert!(rt; z == [7; 4] && ranks.len() == 3);
-    Ok(())
-}
-
-/// No ranks come first, then merges, then elements outside, then elements that overlap.
-const REFUSED: [(usize, &[u32], i64, AllFault); 4] = [
+/// The number of ranks, merges and an origin, and why these aren't reduced: no ranks come first, then merges that don't bracket them, with
+/// the place at which that shows, then elements outside, then elements that overlap.
+const REFUSED: [(usize, &[u32], i64, AllFault); 10] = [
     (0, &[0], 4, AllFault::Empty),
     (1, &[0], 4, AllFault::BadMerge { at: 0 }),
-    (1, &[], 4, AllFault::Outside),
-    (1, &[], 0, AllFault::Overlap),
+    (3, &[2, 0], 4, AllFault::BadMerge { at: 0 }),
+    (3, &[0, 1], 4, AllFault::BadMerge { at: 1 }),
+    (3, &[0xffff_ffff, 0], 4, AllFault::BadMerge { at: 0 }),
+    (3, &[], 4, AllFault::BadMerge { at: 0 }),
+    (3, &[1], 4, AllFault::BadMerge { at: 1 }),
+    (3, &[1, 0, 0], 4, AllFault::BadMerge { at: 2 }),
+    (3, &[1, 0], 4, AllFault::Outside),
+    (3, &[1, 0], 0, AllFault::Overlap),
 ];
 
 #[test]
-fn refusals_in_their_order(rt: HostRuntime) -> Result<(), Fail> {
+fn ranks_that_are_not_reduced(rt: HostRuntime) -> Result<(), Fail> {
     let alloc = rt.alloc();
     let twice = type_of(alloc, "hvector 2 1 0 MPI_BYTE")?;
     let mut z = [7; 4];
     for (number, merges, origin, fault) in REFUSED {
         let mut ranks = ranks_of(alloc, &twice, 1, &FIVE[..number.min(5)])?;
         let refused = summed(alloc, &mut ranks, merges, origin, &mut z);
-        assert!(rt; refused == Err(fault) && ranks.len() == number);
+        assert!(rt;
+            refused == Err(fault) && ranks.len() == number,
+            "{merges:?} {origin}"
+        );
     }
     assert!(rt; z == [7; 4]);
     Ok(())
@@ -201,7 +175,7 @@ fn refusals_in_their_order(rt: HostRuntime) -> Result<(), Fail> {
 /// Adds ranks of so many bytes until one is refused, and answers why, and how many there are.
 fn fill(alloc: Global, bytes: u32) -> Result<(Option<RanksFault>, usize), Fail> {
     let row = vec![in alloc; 1; bytes.min(16_777_216) as usize]?;
-    let mut ranks = Ranks::new(alloc, &type_of(alloc, "MPI_BYTE")?, bytes)?;
+    let mut ranks = Ranks::new(alloc, &type_of(alloc, "dup MPI_BYTE")?, bytes)?;
     let mut fault = None;
     for _rank in 0..=RANKS_MAX {
         fault = ranks.add(0, &row).err();
@@ -227,20 +201,5 @@ fn one_rank_too_many(rt: HostRuntime) -> Result<(), Fail> {
         let (fault, ranks) = fill(rt.alloc(), bytes)?;
         assert!(rt; fault == Some(why) && ranks == most, "{bytes}: {ranks}");
     }
-    Ok(())
-}
-
-/// As many ranks as there may be; an element outside is told before.
-#[test]
-fn the_most_ranks(rt: HostRuntime) -> Result<(), Fail> {
-    let alloc = rt.alloc();
-    let mut ranks = Ranks::new(alloc, &type_of(alloc, "MPI_BYTE")?, 1)?;
-    for _rank in 0..RANKS_MAX {
-        ranks.add(0, &[3])?;
-    }
-    assert!(rt; ranks.add(1, &[3]).err() == Some(RanksFault::Outside));
-    let mut z = [7; 4];
-    let merges = halves(alloc, 1024)?;
-    assert!(rt; summed(alloc, &mut ranks, &merges, 1, &mut z) == Ok(1) && z == [7, 0, 7, 7]);
     Ok(())
 }

@@ -29,12 +29,8 @@ fn joined<L: Law, F: Call + Drop>(f: F, kind: Kind, a: u64, b: u64) -> u64
 }
 
 #[test]
-fn a_stored_function(rt: HostRuntime) {
+fn stored_closures(rt: HostRuntime) {
     assert!(rt; joined::<SumLaw, _>(sum, Kind::Uint8, 200, 100) == 44);
-}
-
-#[test]
-fn a_closure_by_a_law_of_its_own(rt: HostRuntime) {
     let skipped = 0;
     let first_some = |_kind: Kind, a: u64, b: u64| if a == skipped { b } else { a };
     assert!(rt; joined::<FirstSome, _>(&first_some, Kind::Int, 0, 7) == 7);

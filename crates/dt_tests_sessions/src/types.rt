@@ -6,7 +6,7 @@ use std::alloc::Global;
 use std::test::Fail;
 
 /// Types of which others are made.
-const PARTS: [&str; 11] = [
+const PARTS: [&str; 13] = [
     "type two = contiguous 2 MPI_BYTE",
     "type three = contiguous 3 MPI_INT",
     "type shorts = contiguous 3 MPI_SHORT",
@@ -16,37 +16,38 @@ const PARTS: [&str; 11] = [
     "type small = struct 1@0@MPI_INT 3@4@MPI_BYTE",
     "type large = struct 2@16@small 0@0@small 1@0@MPI_UNSIGNED_LONG",
     "type nothing = struct",
-    "type spots = hindexed MPI_INT 1@0 0@8",
+    "type spot = hindexed MPI_INT 1@0 0@8",
+    "type spots = hindexed spot 1@0 0@8",
     "type tail = struct 1@1@MPI_BYTE 1@0@MPI_BYTE",
+    "type tails = struct 1@1@tail 1@0@MPI_BYTE",
 ];
 
-/// What makes `spots` and `tail` two levels deeper: two rows at each level, the second of them empty, and a byte behind the level inside.
+/// What makes `spots` and `tails` two levels deeper: two rows at each level, the second of them empty, and a byte before the level inside.
 const DEEPER: [&str; 8] = [
     "type a = hindexed spots 1@0 0@8",
     "free spots",
     "type spots = hindexed a 1@0 0@8",
     "free a",
-    "type b = struct 1@1@tail 1@0@MPI_BYTE",
-    "free tail",
-    "type tail = struct 1@1@b 1@0@MPI_BYTE",
+    "type b = struct 1@1@tails 1@0@MPI_BYTE",
+    "free tails",
+    "type tails = struct 1@1@b 1@0@MPI_BYTE",
     "free b",
 ];
 
 fn obey(alloc: Global, machine: &mut Machine, line: &str) -> Result<(), Fail> {
-    let mut reply = Vec::new(alloc);
-    if machine.line(line.as_bytes(), &mut reply)? {
+    if machine.line(line.as_bytes(), &mut Vec::new(alloc))? {
         return Ok(());
     }
     Err(Fail::from(line))
 }
 
-/// A machine that has `spots` and `tail`, 64 levels deep, and the other parts.
+/// A machine that has `spots` and `tails`, 63 levels deep, and the other parts.
 fn with_parts(alloc: Global) -> Result<Machine, Fail> {
     let mut machine = Machine::new(alloc);
     for line in PARTS {
         obey(alloc, &mut machine, line)?;
     }
-    for _pair in 1..32 {
+    for _pair in 0..30 {
         for line in DEEPER {
             obey(alloc, &mut machine, line)?;
         }
@@ -54,25 +55,13 @@ fn with_parts(alloc: Global) -> Result<Machine, Fail> {
     Ok(machine)
 }
 
-/// The type of a name, where it stands.
-fn named(alloc: Global, machine: &Machine, name: &str) -> Result<Option<Datatype>, Fail> {
-    match machine.find_type(name.as_bytes()) {
-        Ok(Found::Basic(kind)) => Ok(Some(Datatype::named(alloc, kind)?)),
-        Ok(Found::Derived(ty)) => Ok(Some(ty.share()?)),
-        Err(_) => Ok(None),
-    }
-}
-
-/// The type that a name stands for, or that a constructor makes.
+/// The type that a constructor makes.
 pub(crate) fn type_of(alloc: Global, words: &str) -> Result<Datatype, Fail> {
     let mut machine = with_parts(alloc)?;
-    if let Some(ty) = named(alloc, &machine, words)? {
-        return Ok(ty);
-    }
     let line = format!(in alloc; "type t = {words}")?;
     obey(alloc, &mut machine, line.as_str())?;
-    match named(alloc, &machine, "t")? {
-        Some(ty) => Ok(ty),
-        None => Err(Fail::from(words)),
-    }
+    let Ok(Found::Derived(ty)) = machine.find_type(b"t") else {
+        return Err(Fail::from(words));
+    };
+    Ok(ty.share()?)
 }
