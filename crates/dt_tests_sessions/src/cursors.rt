@@ -159,20 +159,6 @@ fn is_plain(alloc: Global, ty: &Datatype, count: u32, rep: Rep) -> Result<bool, 
     Ok(all)
 }
 
-#[test]
-fn every_cut_from_every_byte(rt: HostRuntime) -> Result<(), Fail> {
-    let alloc = rt.alloc();
-    for (words, count) in SHAPES {
-        let ty = type_of(alloc, words)?;
-        assert!(rt; is_plain(alloc, &ty, count, Rep::Native)?, "native {words}");
-        assert!(rt;
-            is_plain(alloc, &ty, count, Rep::External32)?,
-            "external32 {words}"
-        );
-    }
-    Ok(())
-}
-
 /// The rows that come first where there is room for so many bytes, as one line of numbers: place, elements, rows and step.
 fn first_rows(alloc: Global, words: &str, count: u32, most: usize) -> Result<String, Fail>
     requires { 0 < most }
@@ -230,17 +216,14 @@ fn is_found(alloc: Global, ty: &Datatype, count: u32, rep: Rep) -> Result<bool, 
 }
 
 #[test]
-fn every_byte_is_found(rt: HostRuntime) -> Result<(), Fail> {
+fn every_byte_and_every_cut(rt: HostRuntime) -> Result<(), Fail> {
+    let alloc = rt.alloc();
     for (words, count) in SHAPES {
-        let ty = type_of(rt.alloc(), words)?;
-        assert!(rt;
-            is_found(rt.alloc(), &ty, count, Rep::Native)?,
-            "native {words}"
-        );
-        assert!(rt;
-            is_found(rt.alloc(), &ty, count, Rep::External32)?,
-            "external32 {words}"
-        );
+        let ty = type_of(alloc, words)?;
+        for rep in [Rep::Native, Rep::External32] {
+            assert!(rt; is_found(alloc, &ty, count, rep)?, "{rep:?} {words}");
+            assert!(rt; is_plain(alloc, &ty, count, rep)?, "{rep:?} {words}");
+        }
     }
     Ok(())
 }

@@ -124,26 +124,13 @@ fn shapes_and_their_programs(rt: HostRuntime) -> Result<(), Fail> {
 /// Every level has its two spots, its head and its end.
 #[test]
 fn a_deep_program(rt: HostRuntime) -> Result<(), Fail> {
-    let program = program_of(
-        rt.alloc(),
-        &type_of(rt.alloc(), "hindexed spots 1@0 0@8")?,
-        1,
-    )?;
+    let alloc = rt.alloc();
+    let program = program_of(alloc, &type_of(alloc, "hindexed spots 1@0 0@8")?, 1)?;
     let mut code = CountedCode::new(&program);
-    let len = code.len();
-    assert!(rt; len == 253, "{len}");
-    assert!(rt;
-        matches!(
-            code.at(0),
-            Instr::Each {
-                spots: 2,
-                next: 253,
-                ..
-            }
-        )
-    );
-    assert!(rt; matches!(code.at(189), Instr::One(_)));
-    assert!(rt; code.reads() == 2);
+    assert!(rt; code.len() == 253);
+    let head = instruction_text(alloc, code.at(0))?;
+    assert!(rt; head.as_str() == "each 2 of 4 4 to 253;", "{head}");
+    assert!(rt; matches!(code.at(189), Instr::One(_)) && code.reads() == 2);
     Ok(())
 }
 

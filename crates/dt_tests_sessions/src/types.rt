@@ -6,7 +6,7 @@ use std::alloc::Global;
 use std::test::Fail;
 
 /// Types of which others are made.
-const PARTS: [&str; 13] = [
+const PARTS: [&str; 15] = [
     "type two = contiguous 2 MPI_BYTE",
     "type three = contiguous 3 MPI_INT",
     "type shorts = contiguous 3 MPI_SHORT",
@@ -15,6 +15,8 @@ const PARTS: [&str; 13] = [
     "type gap = vector 2 1 3 MPI_UNSIGNED",
     "type small = struct 1@0@MPI_INT 3@4@MPI_BYTE",
     "type large = struct 2@16@small 0@0@small 1@0@MPI_UNSIGNED_LONG",
+    "type ints = struct 2@0@MPI_INT 1@8@MPI_SHORT",
+    "type mixed = struct 1@0@small 4@8@MPI_SHORT",
     "type nothing = struct",
     "type spot = hindexed MPI_INT 1@0 0@8",
     "type spots = hindexed spot 1@0 0@8",
