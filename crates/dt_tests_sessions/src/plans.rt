@@ -1,10 +1,11 @@
 //! What no line of a script shows of sessions and plans.
-ghost use Rattle.std.specs.Prelude.{◌≤◌};
+ghost use Rattle.std.specs.Prelude.{◌≡◌};
+ghost use Rattle.dt_ops.specs.Stored.{TakesWords, Joins};
 
 use crate::types::type_of;
 use dt_copy::{CopyFault, CopyPlan};
 use dt_kinds::Rep;
-use dt_ops::{StoredOp, SumLaw, sum};
+use dt_ops::{Call, Law, StoredOp, SumLaw, sum};
 use dt_pack::PackSession;
 use dt_reduce::ReducePlan;
 use std::alloc::Global;
@@ -42,6 +43,22 @@ fn a_copy_is_run_again(rt: HostRuntime) -> Result<(), Fail> {
     Ok(())
 }
 
+/// Reduces by three bytes, and then by three others, and answers how many elements these are.
+fn run_twice<L: Law, F: Call + Drop>(
+    f: F,
+    plan: &mut ReducePlan,
+    target: &mut [u8; 4],
+) -> (u64, u64)
+    requires takes_words { TakesWords (F.may f) }
+    requires joins { Joins L.join (F.gives f) }
+    requires source { plan.old.source_len ≡ 3 }
+    requires target { plan.old.target_len ≡ 4 }
+{
+    let op = StoredOp::<L, F>::new(f);
+    let before = plan.run(&op, &[1, 2, 3], target);
+    (before, plan.run(&op, &[4, 5, 6], target))
+}
+
 /// Each run joins all elements, of both buffers as they are then.
 #[test]
 fn a_reduction_is_run_again(rt: HostRuntime) -> Result<(), Fail> {
@@ -50,10 +67,9 @@ fn a_reduction_is_run_again(rt: HostRuntime) -> Result<(), Fail> {
     let Ok(mut plan) = ReducePlan::begin(alloc, &spread, 1, 0, 3, 1, 4) else {
         return Err(Fail::from("no plan"));
     };
-    let op = StoredOp::<SumLaw, _>::new(sum);
     let mut target = [9, 10, 11, 12];
-    assert!(rt; plan.run(&op, &[1, 2, 3], &mut target) == 2 && target == [9, 11, 11, 15]);
-    assert!(rt; plan.run(&op, &[4, 5, 6], &mut target) == 2 && target == [9, 15, 11, 21]);
+    assert!(rt; run_twice::<SumLaw, _>(sum, &mut plan, &mut target) == (2, 2));
+    assert!(rt; target == [9, 15, 11, 21]);
     Ok(())
 }
 
