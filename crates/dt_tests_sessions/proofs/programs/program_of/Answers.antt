@@ -1,7 +1,7 @@
 use Rattle.std.proofs.Common.{◌≡◌, ◌∙◌, true, pos, sym, arith, rules}
 use Rattle.dt_type.specs.Datatype.{typemap_of}
 use Rattle.dt_layout.proofs.Inside.{inside_is_close}
-use Rattle.dt_tests_cursors.proofs.programs.program_of.Goals as goal
+use Rattle.dt_tests_sessions.proofs.programs.program_of.Goals as goal
 
 pub compile-requires-clause-close : goal.compile-requires-clause-close
 compile-requires-clause-close c =

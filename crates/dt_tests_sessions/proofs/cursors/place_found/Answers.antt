@@ -4,7 +4,7 @@ use Rattle.dt_layout.specs.Code.{Counted}
 use Rattle.dt_layout.specs.Program.{StandsFor}
 use Rattle.dt_map.specs.Elements.{elements}
 use Rattle.dt_type.specs.Datatype.{typemap_of}
-use Rattle.dt_tests_cursors.proofs.finding.expect_found.Goals as goal
+use Rattle.dt_tests_sessions.proofs.cursors.place_found.Goals as goal
 
 pub here-requires : goal.here-requires
 here-requires c =

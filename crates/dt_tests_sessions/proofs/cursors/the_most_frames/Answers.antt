@@ -2,7 +2,7 @@ use Rattle.std.proofs.Common.{pos, arith, refl, subst, sym}
 use Rattle.dt_layout.specs.Body.{meaning}
 use Rattle.dt_layout.specs.Code.{Counted}
 use Rattle.dt_layout.specs.Program.{AreProgram}
-use Rattle.dt_tests_cursors.proofs.finding.the_most_frames.Goals as goal
+use Rattle.dt_tests_sessions.proofs.cursors.the_most_frames.Goals as goal
 
 pub find-requires : goal.find-requires
 find-requires g c =
