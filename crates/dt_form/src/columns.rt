@@ -1,5 +1,5 @@
 //! Lists of arguments, each appended to a list of numbers.
-ghost use Rattle.std.specs.Prelude.{◌≡◌, ◌<◌, ◌++◌, map, length, OnOk};
+ghost use Rattle.std.specs.Prelude.{◌≡◌, ◌<◌, ◌++◌, ℤ, map, length, OnOk};
 ghost use Rattle.dt_form.specs.Contents as spec;
 
 use crate::form::{AddrBlock, Dist, DistDim, IntBlock, Order, PartOf, SubDim};
@@ -54,132 +54,164 @@ pub(crate) fn push_disps(list: &mut Vec<i64>, disps: &[i32]) -> Result<(), NoMem
     Ok(())
 }
 
+/// A number of each item of a list.
+pub(crate) trait Column<T> {
+    /// The number of an item.
+    ghost value: { T → ℤ };
+
+    fn number(item: &T) -> i64
+        ensures { result ≡ value item.now };
+}
+
 /// The lengths of blocks.
-pub(crate) fn push_int_lengths(list: &mut Vec<i64>, blocks: &[IntBlock]) -> Result<(), NoMemory>
-    ensures { OnOk result (list.new.items ≡ list.old.items ++ map (λ b. b.len) blocks.now) }
-{
-    for block in blocks {
-        list.push(i64::from(block.len))?;
+pub(crate) struct IntLengths;
+
+impl Column<IntBlock> for IntLengths {
+    ghost value = { λ b. b.len };
+
+    fn number(block: &IntBlock) -> i64 {
+        i64::from(block.len)
     }
-    Ok(())
 }
 
 /// The displacements of blocks, in extents.
-pub(crate) fn push_int_disps(list: &mut Vec<i64>, blocks: &[IntBlock]) -> Result<(), NoMemory>
-    ensures { OnOk result (list.new.items ≡ list.old.items ++ map (λ b. b.disp) blocks.now) }
-{
-    for block in blocks {
-        list.push(i64::from(block.disp))?;
+pub(crate) struct IntDisps;
+
+impl Column<IntBlock> for IntDisps {
+    ghost value = { λ b. b.disp };
+
+    fn number(block: &IntBlock) -> i64 {
+        i64::from(block.disp)
     }
-    Ok(())
 }
 
 /// The lengths of blocks.
-pub(crate) fn push_addr_lengths(list: &mut Vec<i64>, blocks: &[AddrBlock]) -> Result<(), NoMemory>
-    ensures { OnOk result (list.new.items ≡ list.old.items ++ map (λ b. b.len) blocks.now) }
-{
-    for block in blocks {
-        list.push(i64::from(block.len))?;
+pub(crate) struct AddrLengths;
+
+impl Column<AddrBlock> for AddrLengths {
+    ghost value = { λ b. b.len };
+
+    fn number(block: &AddrBlock) -> i64 {
+        i64::from(block.len)
     }
-    Ok(())
 }
 
 /// The displacements of blocks, in bytes.
-pub(crate) fn push_addr_disps(list: &mut Vec<i64>, blocks: &[AddrBlock]) -> Result<(), NoMemory>
-    ensures { OnOk result (list.new.items ≡ list.old.items ++ map (λ b. b.disp) blocks.now) }
-{
-    for block in blocks {
-        list.push(block.disp)?;
+pub(crate) struct AddrDisps;
+
+impl Column<AddrBlock> for AddrDisps {
+    ghost value = { λ b. b.disp };
+
+    fn number(block: &AddrBlock) -> i64 {
+        block.disp
     }
-    Ok(())
 }
 
 /// The lengths of the parts of a struct.
-pub(crate) fn push_part_lengths<T>(list: &mut Vec<i64>, parts: &[PartOf<T>]) -> Result<(), NoMemory>
-    ensures { OnOk result (list.new.items ≡ list.old.items ++ map (λ p. p.len) parts.now) }
-{
-    for part in parts {
-        list.push(i64::from(part.len))?;
+pub(crate) struct PartLengths;
+
+impl<T> Column<PartOf<T>> for PartLengths {
+    ghost value = { λ p. p.len };
+
+    fn number(part: &PartOf<T>) -> i64 {
+        i64::from(part.len)
     }
-    Ok(())
 }
 
 /// The displacements of the parts of a struct, in bytes.
-pub(crate) fn push_part_disps<T>(list: &mut Vec<i64>, parts: &[PartOf<T>]) -> Result<(), NoMemory>
-    ensures { OnOk result (list.new.items ≡ list.old.items ++ map (λ p. p.disp) parts.now) }
-{
-    for part in parts {
-        list.push(part.disp)?;
+pub(crate) struct PartDisps;
+
+impl<T> Column<PartOf<T>> for PartDisps {
+    ghost value = { λ p. p.disp };
+
+    fn number(part: &PartOf<T>) -> i64 {
+        part.disp
     }
-    Ok(())
 }
 
 /// The sizes of the dimensions of a subarray.
-pub(crate) fn push_sizes(list: &mut Vec<i64>, dims: &[SubDim]) -> Result<(), NoMemory>
-    ensures { OnOk result (list.new.items ≡ list.old.items ++ map (λ d. d.size) dims.now) }
-{
-    for dim in dims {
-        list.push(i64::from(dim.size))?;
+pub(crate) struct Sizes;
+
+impl Column<SubDim> for Sizes {
+    ghost value = { λ d. d.size };
+
+    fn number(dim: &SubDim) -> i64 {
+        i64::from(dim.size)
     }
-    Ok(())
 }
 
 /// How many indices of each dimension a subarray has.
-pub(crate) fn push_subsizes(list: &mut Vec<i64>, dims: &[SubDim]) -> Result<(), NoMemory>
-    ensures { OnOk result (list.new.items ≡ list.old.items ++ map (λ d. d.sub) dims.now) }
-{
-    for dim in dims {
-        list.push(i64::from(dim.sub))?;
+pub(crate) struct Subsizes;
+
+impl Column<SubDim> for Subsizes {
+    ghost value = { λ d. d.sub };
+
+    fn number(dim: &SubDim) -> i64 {
+        i64::from(dim.sub)
     }
-    Ok(())
 }
 
 /// The first index of a subarray in each dimension.
-pub(crate) fn push_starts(list: &mut Vec<i64>, dims: &[SubDim]) -> Result<(), NoMemory>
-    ensures { OnOk result (list.new.items ≡ list.old.items ++ map (λ d. d.start) dims.now) }
-{
-    for dim in dims {
-        list.push(i64::from(dim.start))?;
+pub(crate) struct Starts;
+
+impl Column<SubDim> for Starts {
+    ghost value = { λ d. d.start };
+
+    fn number(dim: &SubDim) -> i64 {
+        i64::from(dim.start)
     }
-    Ok(())
 }
 
 /// The sizes of the dimensions of a distributed array.
-pub(crate) fn push_gsizes(list: &mut Vec<i64>, dims: &[DistDim]) -> Result<(), NoMemory>
-    ensures { OnOk result (list.new.items ≡ list.old.items ++ map (λ d. d.gsize) dims.now) }
-{
-    for dim in dims {
-        list.push(i64::from(dim.gsize))?;
+pub(crate) struct Gsizes;
+
+impl Column<DistDim> for Gsizes {
+    ghost value = { λ d. d.gsize };
+
+    fn number(dim: &DistDim) -> i64 {
+        i64::from(dim.gsize)
     }
-    Ok(())
 }
 
 /// How each dimension is dealt out.
-pub(crate) fn push_dists(list: &mut Vec<i64>, dims: &[DistDim]) -> Result<(), NoMemory>
-    ensures { OnOk result (list.new.items ≡ list.old.items ++ map (λ d. spec.dist_number d.dist) dims.now) }
-{
-    for dim in dims {
-        list.push(dist_number(dim.dist))?;
+pub(crate) struct Dists;
+
+impl Column<DistDim> for Dists {
+    ghost value = { λ d. spec.dist_number d.dist };
+
+    fn number(dim: &DistDim) -> i64 {
+        dist_number(dim.dist)
     }
-    Ok(())
 }
 
 /// The length of the blocks in which each dimension is dealt out.
-pub(crate) fn push_dargs(list: &mut Vec<i64>, dims: &[DistDim]) -> Result<(), NoMemory>
-    ensures { OnOk result (list.new.items ≡ list.old.items ++ map (λ d. spec.darg_number d.darg) dims.now) }
-{
-    for dim in dims {
-        list.push(darg_number(dim.darg))?;
+pub(crate) struct Dargs;
+
+impl Column<DistDim> for Dargs {
+    ghost value = { λ d. spec.darg_number d.darg };
+
+    fn number(dim: &DistDim) -> i64 {
+        darg_number(dim.darg)
     }
-    Ok(())
 }
 
 /// How many processes each dimension is dealt out to.
-pub(crate) fn push_psizes(list: &mut Vec<i64>, dims: &[DistDim]) -> Result<(), NoMemory>
-    ensures { OnOk result (list.new.items ≡ list.old.items ++ map (λ d. d.psize) dims.now) }
+pub(crate) struct Psizes;
+
+impl Column<DistDim> for Psizes {
+    ghost value = { λ d. d.psize };
+
+    fn number(dim: &DistDim) -> i64 {
+        i64::from(dim.psize)
+    }
+}
+
+/// Appends a column of a list.
+pub(crate) fn push_column<C: Column<T>, T>(list: &mut Vec<i64>, items: &[T]) -> Result<(), NoMemory>
+    ensures { OnOk result (list.new.items ≡ list.old.items ++ map C.value items.now) }
 {
-    for dim in dims {
-        list.push(i64::from(dim.psize))?;
+    'items: for item in items {
+        list.push(C::number(item))?;
     }
     Ok(())
 }

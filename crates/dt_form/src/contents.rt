@@ -4,7 +4,10 @@ ghost use Rattle.dt_form.specs.Contents as spec;
 ghost use Rattle.dt_form.specs.Contents.{number_of, integers_of, addresses_of};
 ghost use Rattle.dt_form.specs.Form.{items_of};
 
-use crate::columns;
+use crate::columns::{
+    self, AddrDisps, AddrLengths, Dargs, Dists, Gsizes, IntDisps, IntLengths, PartDisps,
+    PartLengths, Psizes, Sizes, Starts, Subsizes, push_column,
+};
 use crate::form::{AddrBlock, DistDim, FormOf, IntBlock, Order, PartOf, SubDim};
 use dt_kinds::NoMemory;
 use sqlite_items::Items;
@@ -25,8 +28,8 @@ fn indexed_integers(alloc: Global, blocks: &[IntBlock]) -> Result<Items<i64>, No
 {
     let mut list = Vec::new(alloc);
     list.push(columns::number_of(blocks))?;
-    columns::push_int_lengths(&mut list, blocks)?;
-    columns::push_int_disps(&mut list, blocks)?;
+    push_column::<IntLengths, _>(&mut list, blocks)?;
+    push_column::<IntDisps, _>(&mut list, blocks)?;
     Ok(Items::from_vec(list))
 }
 
@@ -37,7 +40,7 @@ fn hindexed_integers(alloc: Global, blocks: &[AddrBlock]) -> Result<Items<i64>, 
 {
     let mut list = Vec::new(alloc);
     list.push(columns::number_of(blocks))?;
-    columns::push_addr_lengths(&mut list, blocks)?;
+    push_column::<AddrLengths, _>(&mut list, blocks)?;
     Ok(Items::from_vec(list))
 }
 
@@ -60,7 +63,7 @@ fn struct_integers<T>(alloc: Global, parts: &[PartOf<T>]) -> Result<Items<i64>, 
 {
     let mut list = Vec::new(alloc);
     list.push(columns::number_of(parts))?;
-    columns::push_part_lengths(&mut list, parts)?;
+    push_column::<PartLengths, _>(&mut list, parts)?;
     Ok(Items::from_vec(list))
 }
 
@@ -71,9 +74,9 @@ fn subarray_integers(alloc: Global, dims: &[SubDim], order: Order) -> Result<Ite
 {
     let mut list = Vec::new(alloc);
     list.push(columns::number_of(dims))?;
-    columns::push_sizes(&mut list, dims)?;
-    columns::push_subsizes(&mut list, dims)?;
-    columns::push_starts(&mut list, dims)?;
+    push_column::<Sizes, _>(&mut list, dims)?;
+    push_column::<Subsizes, _>(&mut list, dims)?;
+    push_column::<Starts, _>(&mut list, dims)?;
     list.push(columns::order_number(order))?;
     Ok(Items::from_vec(list))
 }
@@ -94,10 +97,10 @@ fn darray_integers(
     list.push(i64::from(size))?;
     list.push(i64::from(rank))?;
     list.push(columns::number_of(dims))?;
-    columns::push_gsizes(&mut list, dims)?;
-    columns::push_dists(&mut list, dims)?;
-    columns::push_dargs(&mut list, dims)?;
-    columns::push_psizes(&mut list, dims)?;
+    push_column::<Gsizes, _>(&mut list, dims)?;
+    push_column::<Dists, _>(&mut list, dims)?;
+    push_column::<Dargs, _>(&mut list, dims)?;
+    push_column::<Psizes, _>(&mut list, dims)?;
     list.push(columns::order_number(order))?;
     Ok(Items::from_vec(list))
 }
@@ -107,7 +110,7 @@ fn block_addresses(alloc: Global, blocks: &[AddrBlock]) -> Result<Items<i64>, No
     ensures { IfOk result (λ list. list ≡ map (λ b. b.disp) blocks.now) }
 {
     let mut list = Vec::new(alloc);
-    columns::push_addr_disps(&mut list, blocks)?;
+    push_column::<AddrDisps, _>(&mut list, blocks)?;
     Ok(Items::from_vec(list))
 }
 
@@ -116,7 +119,7 @@ fn part_addresses<T>(alloc: Global, parts: &[PartOf<T>]) -> Result<Items<i64>, N
     ensures { IfOk result (λ list. list ≡ map (λ p. p.disp) parts.now) }
 {
     let mut list = Vec::new(alloc);
-    columns::push_part_disps(&mut list, parts)?;
+    push_column::<PartDisps, _>(&mut list, parts)?;
     Ok(Items::from_vec(list))
 }
 
