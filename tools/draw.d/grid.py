@@ -4,6 +4,7 @@ import collections
 ONE_ROW = 64  # so many bytes stand in one strip
 MANY = 2000  # more cells than that are drawn to scale
 WIDEST, LEAST = 26, 4  # points that a cell has
+BESIDE = 100  # the room for the names of bounds beside rows that are drawn to scale
 ROWS = 400
 LANES = 4  # boxes with common bytes stand one above another, so many at most
 
@@ -37,6 +38,8 @@ class Grid:
             self.left = max(len(str(self.start)), len(str(self.start + self.rows * self.width))) * 5.5 + 8
         self.cell = min(WIDEST, (room - self.left) / self.width)
         self.is_scaled = self.rows * self.width > MANY or self.cell < LEAST
+        if self.is_scaled and self.rows > 1:
+            self.cell = (room - self.left - BESIDE) / self.width
         self.tops = self.heights = ()
 
     def move(self, left, room):

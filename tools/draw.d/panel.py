@@ -99,7 +99,7 @@ def draw_memory(panel, grid):
     if layout.buffer is not None:
         panel.pieces += strip.under(grid, {at: f"{byte:02x}" for at, byte in enumerate(layout.buffer)}, 0)
     panel.height = end
-    panel.width = max(panel.width, grid.right() + (90 if grid.is_scaled and grid.rows > 1 else 4))
+    panel.width = max(panel.width, grid.right() + (grids.BESIDE if grid.is_scaled and grid.rows > 1 else 4))
     if grid.is_scaled:
         panel.height += 4
         panel.words(scale_note(grid), 9, panel.room, fill=svg.INK, font_style="italic")
@@ -128,34 +128,42 @@ def joins(panel, packed_grid, packed_boxes):
         yield f'<circle cx="{svg.number(right)}" cy="{svg.number(bottom - 2)}" r="1.6" fill="{svg.SOFT}"/>'
 
 
+def told(one, is_strip):
+    """The lines below packed bytes: their numbers, where no numbers of columns stand above them, and their values or where they come from."""
+    lines = [([str(at) for at in range(one.total)], {})] if is_strip else []
+    if one.values is not None:
+        lines.append(([f"{byte:02x}" for byte in one.values], {"font_style": "italic", "fill": svg.INK}))
+    elif one.sources is not None:
+        lines.append(([str(at) for at in one.sources], {"font_style": "italic", "fill": svg.INK}))
+    return lines
+
+
 def draw_packed(panel, one, number):
     """The packed bytes of one representation."""
     memory = panel.memory
+    if not one.total:
+        panel.height += 6
+        panel.words(words.packed(one), 9, panel.room, fill=svg.SOFT)
+        return
     _, boxes = boxes_of(panel.layout, one)
     grid = grids.Grid(0, one.total, None, panel.room - memory.left if memory.rows == 1 else panel.room)
     if memory.rows == 1 and grid.rows == 1:
         grid.move(memory.left, panel.room)
     if not grid.is_scaled and not memory.is_scaled:
         grid.cell = min(grid.cell, max(memory.cell, 12))
-    grid.is_scaled = grid.is_scaled or memory.is_scaled
     parts = [] if grid.is_scaled else grids.laned(grid, boxes)[0]
     is_joined = number == 0 and memory.rows == grid.rows == 1 and len(boxes) <= JOINED and not grid.is_scaled and boxes
-    is_told = one.sources is not None and not grid.is_scaled
+    lines = [] if grid.is_scaled else told(one, grid.rows == 1)
     above = [OFFSETS + 2 if grid.rows > 1 or grid.is_scaled else 0] + [2] * (grid.rows - 1)
-    below = (10 if is_told else 0) + (10 if is_told and grid.rows == 1 else 0)
+    below = 10 * len(lines)
     end = strip.set_rows(grid, parts, panel.height + (30 if is_joined else 10), above, below)
     if is_joined:
         panel.pieces += joins(panel, grid, boxes)
     panel.pieces += strip.drawn(grid, boxes, parts, [], panel.hues)
     if grid.rows > 1 or grid.is_scaled:
         panel.pieces += strip.offsets(grid)
-    if is_told:
-        line = 0
-        if grid.rows == 1:
-            panel.pieces += strip.under(grid, {at: str(at) for at in range(one.total)}, 0)
-            line = 1
-        texts = [f"{byte:02x}" for byte in one.values] if one.values is not None else [str(at) for at in one.sources]
-        panel.pieces += strip.under(grid, dict(enumerate(texts)), line, font_style="italic", fill=svg.INK)
+    for line, (texts, more) in enumerate(lines):
+        panel.pieces += strip.under(grid, dict(enumerate(texts)), line, **more)
     panel.pieces += cut_line(grid, one)
     panel.height = end
     panel.words(words.packed(one), 9, panel.room, fill=svg.SOFT)

@@ -55,7 +55,7 @@ def sample(what, left, top, hues):
 def said(drawn):
     """What the numbers are."""
     text = "In boxes: the numbers of the elements, in packing order. Above cells: the numbers of the bytes."
-    packed = [one for panel in drawn for one in panel.layout.packed if one.sources and not panel.is_scaled]
+    packed = [one for panel in drawn for one in panel.layout.packed if one.sources]
     if any(one.values is None for one in packed):
         text += " Below packed bytes: their numbers, and slanted the byte of memory that each comes from."
     if any(one.values is not None for one in packed):

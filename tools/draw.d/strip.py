@@ -4,6 +4,7 @@ import grid as grids
 import svg
 
 SMALL = 8.5  # the size of offsets
+FEW = 400  # so many runs of elements have edges when they are drawn to scale
 BAR = 480  # the height of all rows that are drawn to scale, about
 
 
@@ -44,15 +45,15 @@ def offsets(grid):
     shown = grid.start if grid.rows == 1 else 0
     if grid.is_scaled:
         last = shown + grid.width
-        yield svg.text(grid.left, base, SMALL, str(shown), fill=svg.SOFT)
-        yield svg.text(grid.right(), base, SMALL, str(last), fill=svg.SOFT, text_anchor="end")
+        yield svg.text(grid.left + 3, base, SMALL, str(shown), fill=svg.SOFT)
+        yield svg.text(grid.right() - 3, base, SMALL, str(last), fill=svg.SOFT, text_anchor="end")
     elif grid.last > grid.first:
         step = step_of(grid, max(len(str(shown)), len(str(shown + grid.width - 1))))
         for column in range(grid.width):
             if (shown + column) % step == 0:
                 yield svg.text(grid.across(column + 0.5), base, SMALL, str(shown + column), fill=svg.SOFT, text_anchor="middle")
     if grid.rows > 1:
-        every = max(1, int(10 / max(grid.heights[0], 0.1) + 0.999)) if grid.is_scaled else 1
+        every = max(1, int(24 / max(grid.heights[0], 0.1) + 0.999)) if grid.is_scaled else 1
         for row in range(0, grid.rows, every):
             middle = grid.tops[row] + min(grid.heights[row] / 2 + 3, 19)
             label = str(grid.start + row * grid.width)
@@ -139,9 +140,12 @@ def labels(grid, parts, hues, hatched):
 def scaled(grid, boxes, hues):
     """Elements to scale: one path for each kind and state, and the numbers of a run where there is room."""
     paths, words = {}, []
-    for box, last in grids.runs(boxes):
+    found = grids.runs(boxes)
+    least = 1.5 if len(found) <= FEW else 0  # a single element is seen however small it is, and many aren't drawn closer than they lie
+    edge = 0.15 if len(found) <= FEW else 0
+    for box, last in found:
         for row, left, right in grid.parts(box.low, box.high):
-            place = grid.across(left), grid.tops[row], max((right - left) * grid.cell, 0.3), grid.heights[row]
+            place = grid.across(left), grid.tops[row], max((right - left) * grid.cell, least), grid.heights[row]
             paths.setdefault((box.kind, box.state), []).append(svg.box(*place))
             name = str(box.number) if box.number == last else f"{box.number} to {last}"
             size = min(10, (place[2] - 4) / (len(name) * svg.LETTER), place[3] - 1)
@@ -150,7 +154,7 @@ def scaled(grid, boxes, hues):
                 words.append(svg.text(place[0] + place[2] / 2, place[1] + place[3] / 2 + 3.5, size, name, fill=ink, text_anchor="middle"))
     for (kind, state), steps in paths.items():
         more = {} if state == "set" else {"fill_opacity": 0.25}
-        yield svg.path("".join(steps), fill=hues[kind], stroke=svg.INK, stroke_width=0.15, **more)
+        yield svg.path("".join(steps), fill=hues[kind], stroke=svg.INK, stroke_width=edge, **more)
     yield from words
 
 
