@@ -16,8 +16,8 @@ def bracket(grid, low, high, base, name, dash):
     if high < low:  # a negative extent points to the left
         yield svg.path(f"M{svg.number(right + 7)} {svg.number(base - 3.5)}l-6 3.5l6 3.5", fill="none", stroke=svg.INK, stroke_width=1.2)
     if name:
-        begin = max(min(left, right), grid.left)
-        yield svg.rect(begin + 1, base - 15, svg.width_of(name, SIZE), 10.5, fill="#ffffff")
+        begin = max(min(left, right), grid.left) + 4
+        yield svg.rect(begin - 1, base - 15, svg.width_of(name, SIZE) + 2, 12, fill="#ffffff")
         yield svg.text(begin, base - 6, SIZE, name)
 
 

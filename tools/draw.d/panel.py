@@ -20,12 +20,12 @@ class Panel:
         self.beneath = 0
         self.memory = self.memory_boxes = None
 
-    def words(self, text, size, width, **more):
+    def words(self, text, size, width, left=0, **more):
         """Lines of text."""
         for line in svg.wrapped(text, size, width):
             self.height += size + 3
-            self.pieces.append(svg.text(0, self.height - 2, size, line, **more))
-            self.width = max(self.width, svg.width_of(line, size))
+            self.pieces.append(svg.text(left, self.height - 2, size, line, **more))
+            self.width = max(self.width, left + svg.width_of(line, size))
 
 
 def span(layout):
@@ -84,7 +84,7 @@ def draw_memory(panel, grid):
         end = strip.set_rows(grid, parts, top, above, below)
         panel.pieces += marks.over_strip(grid, layout, top, grid.tops[0])
         flags = []
-        panel.width = max(panel.width, svg.width_of(words.bounds(layout), marks.SIZE) + grid.left)
+        panel.width = max(panel.width, svg.width_of(words.bounds(layout), marks.SIZE) + grid.left + 6)
     else:
         found = marks.flags(grid, layout)
         level, room = marks.levels(grid, found)
@@ -152,24 +152,26 @@ def draw_packed(panel, one, number):
     if not grid.is_scaled and not memory.is_scaled:
         grid.cell = min(grid.cell, max(memory.cell, 12))
     parts = [] if grid.is_scaled else grids.laned(grid, boxes)[0]
-    is_joined = number == 0 and memory.rows == grid.rows == 1 and len(boxes) <= JOINED and not grid.is_scaled and boxes
+    is_joined = number == 0 and memory.rows == grid.rows == 1 and len(boxes) <= JOINED and not grid.is_scaled and not memory.is_scaled
     lines = [] if grid.is_scaled else told(one, grid.rows == 1)
     above = [OFFSETS + 2 if grid.rows > 1 or grid.is_scaled else 0] + [2] * (grid.rows - 1)
     below = 10 * len(lines)
     end = strip.set_rows(grid, parts, panel.height + (30 if is_joined else 10), above, below)
     if is_joined:
         panel.pieces += joins(panel, grid, boxes)
-    panel.pieces += strip.drawn(grid, boxes, parts, [], panel.hues)
+    cut = grid.place(one.cut.bytes, True) if one.cut else None
+    panel.pieces += strip.drawn(grid, boxes, parts, [], panel.hues, cut)
     if grid.rows > 1 or grid.is_scaled:
         panel.pieces += strip.offsets(grid)
     for line, (texts, more) in enumerate(lines):
         panel.pieces += strip.under(grid, dict(enumerate(texts)), line, **more)
     panel.pieces += cut_line(grid, one)
     panel.height = end
-    panel.words(words.packed(one), 9, panel.room, fill=svg.SOFT)
+    left = grid.left if grid.rows == 1 else 0
+    panel.words(words.packed(one), 9, panel.room - left, left, fill=svg.SOFT)
     panel.width = max(panel.width, grid.right() + 4)
     if one.cut:
-        panel.words(words.cut(one), 9, panel.room)
+        panel.words(words.cut(one), 9, panel.room - left, left)
 
 
 def cut_line(grid, one):

@@ -115,12 +115,15 @@ def elements(grid, parts, hues):
             yield svg.path("".join(ticks), fill="none", stroke=svg.INK, stroke_width=0.7)
 
 
-def labels(grid, parts, hues, hatched):
+def labels(grid, parts, hues, hatched, cut):
     """The number of each element in packing order, and below it the letters of its kind. On hatching they have a ground of their own."""
     for part in parts:
         top, height = lane_of(grid, part)
         width, middle = (part.right - part.left) * grid.cell, grid.across((part.left + part.right) / 2)
         words, letters = str(part.box.number), colours.letters(part.box.kind)
+        if cut and cut[0] == part.row and part.left < cut[1] < part.right:  # the words stand in the greater half
+            low, high = max((part.left, cut[1]), (cut[1], part.right), key=lambda half: half[1] - half[0])
+            width, middle = (high - low) * grid.cell - 2, grid.across((low + high) / 2)
         size = min(12, (width - 2) / (len(words) * svg.LETTER))
         if size < 5:
             continue
@@ -179,8 +182,8 @@ def under(grid, words, line, **more):
             yield svg.text(grid.across((left + right) / 2), base, size, word, **{"fill": svg.SOFT, "text_anchor": "middle", **more})
 
 
-def drawn(grid, boxes, parts, within, hues):
-    """All cells and elements of a grid whose rows have their places."""
+def drawn(grid, boxes, parts, within, hues, cut=None):
+    """All cells and elements of a grid whose rows have their places; a line may stand at a row and column, the cut."""
     hatched = grids.overlaps(boxes)
     yield from cells(grid, within)
     if grid.is_scaled:
@@ -189,4 +192,4 @@ def drawn(grid, boxes, parts, within, hues):
     else:
         yield from elements(grid, parts, hues)
         yield from hatching(grid, hatched)
-        yield from labels(grid, parts, hues, hatched)
+        yield from labels(grid, parts, hues, hatched, cut)
