@@ -6,8 +6,8 @@ SIZE = 9.5
 BRACKET = 24  # the height of a bracket with its words
 
 
-def bracket(grid, low, high, base, name, dash):
-    """A line from bound to bound with ends, on the line `base`, and its words above it."""
+def bracket(grid, low, high, base, name, dash, limit=0):
+    """A line from bound to bound with ends, on the line `base`, and its words above it, which begin further left where they'd pass the limit."""
     left, right = (grid.across(at - grid.start) for at in (low, high))
     more = {"stroke_width": 1.2, **({"stroke_dasharray": "4 2"} if dash else {})}
     yield svg.line(left, base, right, base, **more)
@@ -16,9 +16,14 @@ def bracket(grid, low, high, base, name, dash):
     if high < low:  # a negative extent points to the left
         yield svg.path(f"M{svg.number(right + 7)} {svg.number(base - 3.5)}l-6 3.5l6 3.5", fill="none", stroke=svg.INK, stroke_width=1.2)
     if name:
-        begin = max(min(left, right), grid.left) + 4
+        begin = name_begin(grid, min(left, right), name, limit)
         yield svg.rect(begin - 1, base - 15, svg.width_of(name, SIZE) + 2, 12, fill="#ffffff")
         yield svg.text(begin, base - 6, SIZE, name)
+
+
+def name_begin(grid, left, name, limit):
+    """Where the words of a bracket begin."""
+    return max(min(left + 4, limit - svg.width_of(name, SIZE)), grid.left + 4)
 
 
 def copy_bracket(grid, number, bounds, base):
@@ -34,19 +39,19 @@ def copy_bracket(grid, number, bounds, base):
         yield svg.text(middle, base + 3, 8, name, text_anchor="middle")
 
 
-def over_strip(grid, layout, top, bottom):
+def over_strip(grid, layout, top, bottom, limit):
     """The brackets of bounds and true bounds, with lines down to the strip, and what height they take."""
     pieces = []
     base = top + 18
     if layout.copies:
         pieces += guides(grid, layout.copies[0], base, bottom, None)
-        pieces += bracket(grid, *layout.copies[0], base, words.bounds(layout), False)
+        pieces += bracket(grid, *layout.copies[0], base, words.bounds(layout), False, limit)
         for number, bounds in enumerate(layout.copies[1:], 1):
             pieces += copy_bracket(grid, number, bounds, base)
     if layout.copies and layout.info["elements"]:
         true = [layout.info[key] + layout.origin for key in ("true_lb", "true_ub")]
         pieces += guides(grid, true, base + BRACKET, bottom, "2 2")
-        pieces += bracket(grid, *true, base + BRACKET, words.true_bounds(layout), True)
+        pieces += bracket(grid, *true, base + BRACKET, words.true_bounds(layout), True, limit)
     return pieces
 
 

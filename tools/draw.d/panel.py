@@ -82,9 +82,12 @@ def draw_memory(panel, grid):
         above = [marks.strip_height(layout) + OFFSETS + 2]
         top = panel.height
         end = strip.set_rows(grid, parts, top, above, below)
-        panel.pieces += marks.over_strip(grid, layout, top, grid.tops[0])
+        limit = max(grid.right(), min(grid.left + 230, panel.room))
+        panel.pieces += marks.over_strip(grid, layout, top, grid.tops[0], limit)
         flags = []
-        panel.width = max(panel.width, svg.width_of(words.bounds(layout), marks.SIZE) + grid.left + 6)
+        if layout.copies:
+            names = (words.bounds(layout), words.true_bounds(layout))
+            panel.width = max(panel.width, limit, *(svg.width_of(name, marks.SIZE) + grid.left + 6 for name in names))
     else:
         found = marks.flags(grid, layout)
         level, room = marks.levels(grid, found)
