@@ -86,8 +86,8 @@ def draw_memory(panel, grid):
         panel.pieces += marks.over_strip(grid, layout, top, grid.tops[0], limit)
         flags = []
         if layout.copies:
-            names = (words.bounds(layout), words.true_bounds(layout))
-            panel.width = max(panel.width, limit, *(svg.width_of(name, marks.SIZE) + grid.left + 6 for name in names))
+            names = [words.bounds(layout)] + ([words.true_bounds(layout)] if layout.info["elements"] else [])
+            panel.width = max(panel.width, *(svg.width_of(name, marks.SIZE) + grid.left + 6 for name in names))
     else:
         found = marks.flags(grid, layout)
         level, room = marks.levels(grid, found)
@@ -155,7 +155,7 @@ def draw_packed(panel, one, number):
     if not grid.is_scaled and not memory.is_scaled:
         grid.cell = min(grid.cell, max(memory.cell, 12))
     parts = [] if grid.is_scaled else grids.laned(grid, boxes)[0]
-    is_joined = number == 0 and memory.rows == grid.rows == 1 and len(boxes) <= JOINED and not grid.is_scaled and not memory.is_scaled
+    is_joined = number == 0 and memory.rows == grid.rows == 1 and len(boxes) <= JOINED and not grid.is_scaled and not memory.is_scaled and not panel.beneath
     lines = [] if grid.is_scaled else told(one, grid.rows == 1)
     above = [OFFSETS + 2 if grid.rows > 1 or grid.is_scaled else 0] + [2] * (grid.rows - 1)
     below = 10 * len(lines)
