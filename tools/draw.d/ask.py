@@ -72,7 +72,7 @@ class Asker:
         except (OSError, subprocess.TimeoutExpired) as fault:
             raise Fault(f"{self.program} run: {fault}") from fault
         replies = done.stdout.decode("ascii", "replace").splitlines()
-        places = [f"line {number}: {line}" for number, line in self.lines] + [f"asked: {shortened(line, 90)}" for line in asked]
+        places = [f"line {number}: {shortened(line, 90)}" for number, line in self.lines] + [f"asked: {shortened(line, 90)}" for line in asked]
         for reply, place in zip(replies, places):
             if reply.startswith("refused "):
                 raise Refused(reply, place)
@@ -116,7 +116,7 @@ def layout(asker, name, given):
     """Asks for everything that a picture of so many copies of a type shows."""
     came = Layout()
     came.name, came.count, came.origin = name, given.count, given.origin
-    came.definition = asker.definition(name)
+    came.definition = shortened(asker.definition(name), 240)
     whole, copy = asker.name("whole") if given.count != 1 else name, asker.name("copy")
     made = [f"type {whole} = contiguous {given.count} {name}"] if given.count != 1 else []
     asked = [f"info {name}", f"info {whole}", f"map {whole}"]

@@ -56,8 +56,9 @@ def over_strip(grid, layout, top, bottom, limit):
 
 
 def guides(grid, bounds, top, bottom, dash):
-    more = {"stroke_dasharray": dash} if dash else {}
-    return [svg.line(grid.across(at - grid.start), top, grid.across(at - grid.start), bottom, stroke=svg.SOFT, stroke_width=0.8, **more) for at in bounds]
+    more = {"stroke": svg.SOFT, "stroke_width": 0.8, **({"stroke_dasharray": dash} if dash else {})}
+    places = [grid.across(at - grid.start) for at in bounds]
+    return [svg.line(place, top, place, bottom, **more) for place in places]
 
 
 def strip_height(layout):

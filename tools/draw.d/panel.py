@@ -155,7 +155,8 @@ def draw_packed(panel, one, number):
     if not grid.is_scaled and not memory.is_scaled:
         grid.cell = min(grid.cell, max(memory.cell, 12))
     parts = [] if grid.is_scaled else grids.laned(grid, boxes)[0]
-    is_joined = number == 0 and memory.rows == grid.rows == 1 and len(boxes) <= JOINED and not grid.is_scaled and not memory.is_scaled and not panel.beneath
+    are_strips = memory.rows == grid.rows == 1 and not memory.is_scaled and not grid.is_scaled
+    is_joined = number == 0 and are_strips and len(boxes) <= JOINED and not panel.beneath
     lines = [] if grid.is_scaled else told(one, grid.rows == 1)
     above = [OFFSETS + 2 if grid.rows > 1 or grid.is_scaled else 0] + [2] * (grid.rows - 1)
     below = 10 * len(lines)

@@ -167,7 +167,7 @@ def hatching(grid, spans):
         for row, left, right in grid.parts(low, high):
             steps.append(svg.box(grid.across(left), grid.tops[row], (right - left) * grid.cell, grid.heights[row]))
     if steps:
-        yield svg.path("".join(steps), fill="url(#overlap)", stroke=svg.INK, stroke_width=0.6)
+        yield svg.path("".join(steps), fill="url(#overlap)", stroke=svg.INK, stroke_width=0 if grid.is_scaled else 0.6)
 
 
 def under(grid, words, line, **more):
